@@ -1,0 +1,3 @@
+pub mod Channels
+pub mod Commands
+pub mod Registers

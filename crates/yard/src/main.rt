@@ -1,0 +1,5 @@
+use std::io;
+
+fn main(rt: LibcRuntime) -> io::Result<()> {
+    println!(rt, "calls 0, refused 0")
+}
