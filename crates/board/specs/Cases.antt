@@ -2,19 +2,21 @@
 use mathlib.Core.Path.{_≡_}
 use mathlib.Core.Bool.{Bool, true, false, cond}
 use mathlib.Core.List.{List, [], _∷_, _++_}
-use Prim.Native.Nat.{ℕ}
+use Prim.Native.Nat.{ℕ, zero, suc}
 use lib.Dec.{eqb}
 use lib.ListN.{getD, replicate}
 use Rattle.std.specs.declared.result.Result.{Result}
 use Rattle.std.specs.declared.result.Result.the-variants.{Ok, Err}
 use Rattle.fault.specs.declared.Fault.{Fault}
+use Rattle.fault.specs.declared.Refusal.the-variants.{CountOfOne}
+use Rattle.fault.specs.Numbers.{own}
 use Rattle.dma.specs.declared.channel.Channel.{Channel}
 use Rattle.memory.specs.Meaning.{Contents}
 use Rattle.rack.specs.declared.Kind.the-variants.{Empty, Giver}
 use Rattle.rack.specs.Meaning.{Level, Levels}
 use Rattle.board.specs.declared.state.Board.{Board}
 use Rattle.board.specs.State.{unused, channel-at}
-use Rattle.board.specs.Ports.{port-written, port-read}
+use Rattle.board.specs.Ports.{port-written, port-read, tick-after, acknowledge-after}
 use Rattle.board.specs.Carry.{Outcome}
 use Rattle.board.specs.Calls.{cycled}
 
@@ -109,3 +111,52 @@ pub record Count-case : Type 0 where
   pub first-open : channel-at (first-unit .board) 2 .masked ≡ false
   pub second-line : getD (second-unit .journal) 1 0 ≡ 0x1490000000010042
   pub second-masked : channel-at (second-unit .board) 2 .masked ≡ true
+
+-- Counters, by port writes and ticks.
+
+-- a byte for each of some ports
+abbrev pub to : ℕ → ℕ → Port-byte
+to p v = record { port = p; byte = v }
+
+abbrev pub after-ticks : ℕ → Board → Board
+after-ticks zero b = b
+after-ticks (suc n) b = after-ticks n (tick-after b)
+
+-- OUT 0 after each of n ticks
+abbrev pub outs : ℕ → Board → List Bool
+outs zero b = []
+outs (suc n) b = tick-after b .timers .system .out ∷ outs n (tick-after b)
+
+-- bit 6 of port 0090 after each of n ticks
+abbrev pub stops : ℕ → Board → List Bool
+stops zero b = []
+stops (suc n) b = tick-after b .arbitration .mask ∷ stops n (tick-after b)
+
+-- counter 0 under a control byte with a count, low byte first
+abbrev pub counter-0 : ℕ → ℕ → Board
+counter-0 control low = after-writes unused (to 0x43 control ∷ to 0x40 low ∷ to 0x40 0 ∷ [])
+
+-- 34 with 3: OUT 0 falls on tick 3, rises on 4 and 7; 36 with 3: low on tick 3, high on 4; 30 with 2: rises on tick 3
+pub record Counter-case : Type 0 where
+  pub rate : outs 7 (counter-0 0x34 3) ≡ true ∷ true ∷ false ∷ true ∷ true ∷ false ∷ true ∷ []
+  pub square : outs 4 (counter-0 0x36 3) ≡ true ∷ true ∷ false ∷ true ∷ []
+  pub terminal : outs 3 (counter-0 0x30 2) ≡ false ∷ false ∷ true ∷ []
+
+-- counter 0 in mode 2 with the low byte of its count written
+abbrev pub half-written : ℕ → Board
+half-written low = after-writes unused (to 0x43 0x34 ∷ to 0x40 low ∷ [])
+
+-- 34 with 1 gets 4 and changes nothing; 34 with 2 is taken
+pub record One-case : Type 0 where
+  pub refused : port-written (half-written 1) 0x40 0 .answer ≡ Err (own CountOfOne 0x40)
+  pub unaltered : port-written (half-written 1) 0x40 0 .board ≡ half-written 1
+  pub taken : port-written (half-written 2) 0x40 0 .answer ≡ Ok tt
+
+-- a watchdog of 2 beside a counter 0 that rises on ticks 3, 5, 7 and 9, the latch clear
+abbrev pub watched : Board
+watched = after-writes (counter-0 0x34 2) (to 0x47 0x10 ∷ to 0x44 2 ∷ [])
+
+-- rise 3 stops arbitration; acknowledged after rise 2, rise 4 does
+pub record Watchdog-case : Type 0 where
+  pub third : stops 7 watched ≡ false ∷ false ∷ false ∷ false ∷ false ∷ false ∷ true ∷ []
+  pub fourth : stops 4 (acknowledge-after (after-ticks 5 watched)) ≡ false ∷ false ∷ false ∷ true ∷ []

@@ -4,7 +4,7 @@ ghost use Prim.Native.Nat.{ℕ, _+_, _%_, _^_, _<_};
 ghost use Rattle.board.specs.Calls.{arrival-answer, arrival-after, loaded, stored, these-stored, cycled};
 ghost use Rattle.board.specs.Carry.{these, carried};
 ghost use Rattle.board.specs.Grant.{granted, requested, winner-of, serving};
-ghost use Rattle.board.specs.Ports.{port-written, port-read};
+ghost use Rattle.board.specs.Ports.{port-written, port-read, tick-after, acknowledge-after};
 ghost use Rattle.board.specs.State.{unused, was-reset, with-dma};
 ghost use Rattle.dma.specs.Registers.{with-status};
 use crate::Board;
@@ -92,6 +92,20 @@ impl Bus {
         ensures after { λ _. ⌜ now (board .exit) ≡ port-written (now (board .entry)) port byte .board ⌝ }
     {
         board.write_port(port, byte)
+    }
+
+    // One tick of the timers' clock.
+    pub fn tick(&self, board: &mut Board)
+        ensures { λ _. ⌜ now (board .exit) ≡ tick-after (now (board .entry)) ⌝ }
+    {
+        board.tick();
+    }
+
+    // Interrupt 0 is acknowledged.
+    pub fn acknowledge(&self, board: &mut Board)
+        ensures { λ _. ⌜ now (board .exit) ≡ acknowledge-after (now (board .entry)) ⌝ }
+    {
+        board.acknowledge();
     }
 
     // A unit comes to a card from outside.

@@ -26,8 +26,9 @@ use memory::MemoryFault;
 use rack::Kind;
 use rack::Rack;
 
+// Which way a unit goes.
 #[derive(Clone, Copy)]
-pub(crate) enum Motion {
+pub enum Motion {
     ToMemory,
     ToCard,
     Verify,
@@ -35,13 +36,13 @@ pub(crate) enum Motion {
 
 // One unit that has passed every check and is to be moved.
 #[derive(Clone, Copy)]
-pub(crate) struct Transfer {
-    motion: Motion,
-    channel: u8,
-    level: u8,
-    wide: bool,
-    last: bool,
-    address: u32,
+pub struct Transfer {
+    pub motion: Motion,
+    pub channel: u8,
+    pub level: u8,
+    pub wide: bool,
+    pub last: bool,
+    pub address: u32,
 }
 
 fn decode_motion(channel: Channel) -> Motion

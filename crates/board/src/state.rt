@@ -3,6 +3,7 @@ ghost use Rattle.dma.specs.Channels.{stepped, with-mask};
 ghost use Rattle.board.specs.State.{started, was-reset, with-arbitration};
 use dma::Channel;
 use dma::Controller;
+use timer::Timers;
 
 // Port 0090: bits 7 to 5, and the level that won the bus last.
 #[derive(Clone, Copy)]
@@ -23,6 +24,9 @@ pub struct Board {
     pub(crate) channels: [Channel; 8],
     pub(crate) dma: Controller,
     pub(crate) arbitration: Arbitration,
+    pub(crate) timers: Timers,
+    // bits 3-0 of port 0061
+    pub(crate) port61: u8,
     pub(crate) lines: u32,
 }
 
@@ -51,6 +55,8 @@ impl Board {
             channels,
             dma: Controller::cleared(),
             arbitration,
+            timers: Timers::power_on(),
+            port61: 0,
             lines,
         }
     }
@@ -71,6 +77,19 @@ impl Board {
         ensures { λ r. ⌜ r ≡ now (self .entry) .arbitration ⌝ }
     {
         self.arbitration
+    }
+
+    pub fn timers(&self) -> Timers
+        ensures { λ r. ⌜ r ≡ now (self .entry) .timers ⌝ }
+    {
+        self.timers
+    }
+
+    // Bits 3-0 of port 0061.
+    pub fn port61(&self) -> u8
+        ensures { λ r. ⌜ r ≡ now (self .entry) .port61 ⌝ }
+    {
+        self.port61
     }
 
     // The number of journal lines put down.

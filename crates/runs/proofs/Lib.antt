@@ -1,0 +1,11 @@
+pub mod Step
+pub mod Runs
+pub mod Sound
+pub mod Tables
+pub mod Ports
+pub mod Racks
+pub mod Checks
+pub mod Carries
+pub mod Laws
+pub mod Answering
+pub mod Computed
