@@ -60,12 +60,19 @@ pub fn predict_out(mode: Mode, access: Access, low: u8, high: u8, clocks: u32) -
     Some(mode.out_form(meant(count), clocks))
 }
 
+// What a count means at counter 3.
+fn meant_by_watchdog(count: u8) -> u16
+    ensures { λ r. ⌜ r ≡ written 256 count ⌝ }
+{
+    if count == 0 { 256 } else { u16::from(count) }
+}
+
 // How many unanswered rises of OUT 0, after the one that loads, raise OUT 3 where that count is written to port 0044.
 pub fn watchdog_limit(count: u8) -> u16
     ensures answer { λ r. ⌜ r ≡ written 256 count ⌝ }
     ensures law { λ _. ⌜ Watchdog-law ⌝ }
 {
-    if count == 0 { 256 } else { u16::from(count) }
+    meant_by_watchdog(count)
 }
 
 // The worked cases of the rules; the answer is the tick on which OUT 0 is high in mode 0 with a count of 2.
