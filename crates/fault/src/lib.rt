@@ -47,7 +47,7 @@ impl Refusal {
     }
 }
 
-// A refusal, where it was, and how deep: the board is layer 0, the memory handed to it layer 1, each beneath one more.
+// A refusal, where it was, and how deep: 0 for the board, 1 for its memory, one more for each memory within.
 #[derive(Clone, Copy)]
 pub struct Fault {
     pub refusal: Refusal,

@@ -31,7 +31,7 @@ impl Reason {
     }
 }
 
-// A memory's refusal: the address as the refusing memory got it, and how deep that memory is.
+// A memory's refusal: the address that the memory was asked about, and how deep that memory is.
 // The memory that is asked is layer 1, each beneath it one more, 255 at most.
 #[derive(Clone, Copy)]
 pub struct MemoryFault {

@@ -57,7 +57,7 @@ printing-line v last-told = v .line
 abbrev pub printing : List ℕ → Level
 printing us = record { kind = Taker; wide = false; line = ltb 0 (printing-room - length us); waiting = []; taken = us; room = printing-room - length us }
 
--- two racks: the second serves the levels that are none in the first
+-- two racks: the second has the levels at which the first holds no card
 abbrev pub pair : Levels → Levels → Levels
 pair a b = record {
   at = λ l. cond (is-empty (a .at l .kind)) (b .at l) (a .at l);

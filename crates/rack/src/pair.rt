@@ -7,7 +7,7 @@ use crate::LevelSummary;
 use crate::Rack;
 use fault::Fault;
 
-// Two racks as one; the second serves the levels that are none in the first.
+// Two racks as one; the second has the levels at which the first holds no card.
 #[derive(Drop)]
 pub struct Pair<A: Rack, B: Rack> {
     first: A,

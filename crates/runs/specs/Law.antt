@@ -88,7 +88,7 @@ is-line (Refused f) = false
 
 -- A. POSTING
 
--- a line of kind 1 or 4 sets the byte at its address to the unit's low byte and, if wide, the next to the high byte
+-- kinds 1 and 4 store the low byte at the address and, when wide, the high byte behind it
 abbrev pub landed-on : (ℕ → ℕ) → Line → ℕ → ℕ
 landed-on f x = cond (x .wide) (put (put f (x .address) (x .unit % 256)) (onward (x .address) 1) (x .unit / 256)) (put f (x .address) (x .unit % 256))
 
@@ -250,7 +250,7 @@ unfoldable pub found : World → List Call → List Bool
 found w [] = []
 found w (c ∷ cs) = cond (rise w c) (w .board .timers .latch ∷ found (after w c) cs) (found (after w c) cs)
 
--- the first rise after a count was written loads it; each later one that finds the latch set is unanswered
+-- rises without an acknowledgement since the one before; the first rise only loads the count
 abbrev pub unanswered : World → List Call → ℕ
 unanswered w cs = how-many (drop 1 (found w cs))
 

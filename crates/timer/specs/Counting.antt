@@ -84,7 +84,7 @@ terminal c None = ran c (c .phase) (less (c .full) (c .standing)) (c .odd) (cond
 abbrev pub rate : Counter → Counter
 rate c = cond (leb (c .standing) 1) (loaded c true) (ran c (c .phase) (c .standing - 1) (c .odd) (cond (eqb (c .standing) 2) false (c .out)))
 
--- mode 3: at zero OUT turns and the newest count loads, a clock later if the load was odd and OUT high
+-- mode 3: by two; used up, OUT flips and the newest count is loaded, after one more clock for an odd load with OUT high
 abbrev pub square : Counter → Counter
 square c =
     cond (ltb 2 (c .standing)) (ran c (c .phase) (c .standing - 2) (c .odd) (c .out))
