@@ -68,7 +68,7 @@ pub record Passed (b : Board) (m : Contents) (r : Levels) (size l n : ℕ) (t : 
   pub card : serves (channel-at b n .mode) (r .at l) ≡ true
   pub is : t ≡ transfer (channel-at b n) l n
 
-not-full : (n size : ℕ) → full n size ≡ false → n < size
+pub not-full : (n size : ℕ) → full n size ≡ false → n < size
 not-full n size h = grind (arith, tells)
 
 chosen : (f a s : Bool) (e1 e2 e3 : Fault) (m : Answer) (t u : Transfer)

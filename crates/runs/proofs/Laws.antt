@@ -40,6 +40,7 @@ use Rattle.runs.proofs.Step.{Step, Served, idle, line, All-listed}
 use Rattle.runs.proofs.Sound.{Dog, Sound-board, Sound}
 use Rattle.runs.proofs.Racks.{Fit, arrived-waiting, arrived-taken, arrived-fit}
 use Rattle.runs.proofs.Ports.{Board-step, same-step, written-step, read-step, tick-step, acknowledge-step, armed-waits}
+use Rattle.runs.proofs.Checks.{not-full}
 use Rattle.runs.proofs.Carries.{Carry-step, carry-step}
 use Rattle.runs.proofs.Runs.{run-law}
 
@@ -117,9 +118,6 @@ stored-line w a v ok low room =
       arbitration = refl;
       small = byte-put (w .memory .byte) a (v % 256) (ok .bytes) (omega arith);
     }
-
-not-full : (n size : ℕ) → full n size ≡ false → n < size
-not-full n size h = grind (arith, tells)
 
 store-step : (w : World) (a v : ℕ) → Sound w → Store-step w a v (store-outcome w a v)
 store-step w a v ok = by-address (leb 16777216 a) refl

@@ -9,6 +9,7 @@ use lib.ListN.{length, getD, drop}
 use Rattle.std.proofs.shelf.Tests.{eqb-true, and-parts, and-from, both-ways, cond-true, ltb-true}
 use Rattle.std.proofs.shelf.Ways.{tells}
 use Rattle.rack.specs.Meaning.{Level, Levels, Event, arrival, giving, taking, last-told, is-giver, is-taker, fits, all-fit, gives, takes, arrives, put, with-level, joined, emptied, filled, lined, arrived, gave, took, told}
+use Rattle.rack.proofs.Fit.{fit-push}
 use Rattle.board.specs.Carry.{told-if}
 
 -- a part of a level after another level was put in
@@ -37,10 +38,6 @@ all-at P r l v h p k = go (eqb k l)
 
 abbrev pub Fit : Level → Type 0
 Fit v = all-fit (v .wide) (v .waiting) ≡ true
-
-fit-push : (w : Bool) (xs : List ℕ) (u : ℕ) → all-fit w xs ≡ true → fits w u ≡ true → all-fit w (xs ++ u ∷ []) ≡ true
-fit-push w [] u h k = and-from (fits w u) true k refl
-fit-push w (x ∷ xs) u h k = let p = and-parts (fits w x) (all-fit w xs) h in and-from (fits w x) (all-fit w (xs ++ u ∷ [])) (p .0) (fit-push w xs u (p .1) k)
 
 fit-rest : (w : Bool) (xs : List ℕ) → all-fit w xs ≡ true → all-fit w (drop 1 xs) ≡ true
 fit-rest w [] h = refl
