@@ -1,3 +1,5 @@
+#![tactic(auto)]
+
 ghost use Rattle.std.specs.Prelude.{◌≡◌, ◌<◌, true, length, slice_set};
 ghost use Rattle.journal.specs.Layout.{listed, word as layout};
 

@@ -1,3 +1,5 @@
+#![tactic(auto)]
+
 mod channel;
 mod command;
 mod controller;

@@ -1,3 +1,5 @@
+#![tactic(auto)]
+
 ghost use Rattle.std.specs.Prelude.{◌≡◌, ◌<◌, true, false, IfOk, Ok};
 ghost use Rattle.fault.specs.declared.Refusal.TheVariants.{NotALine};
 ghost use Rattle.fault.specs.Numbers.{own};

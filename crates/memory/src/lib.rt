@@ -1,3 +1,5 @@
+#![tactic(auto)]
+
 ghost use Rattle.std.specs.Prelude.{◌≡◌, ℕ, ◌<◌, Ok};
 ghost use Rattle.memory.specs.Meaning.{Contents, refusal_of, read_answer, wrote, own_fault, risen, from_memory};
 

@@ -1,3 +1,5 @@
+#![tactic(auto)]
+
 ghost use Rattle.std.specs.Prelude.{◌≡◌, ℕ, true, IfOk};
 ghost use Rattle.fault.specs.Numbers.{own};
 ghost use Rattle.fault.specs.declared.Refusal.TheVariants.{CannotServe, ArrivalNotTaken};

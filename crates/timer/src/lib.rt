@@ -1,3 +1,5 @@
+#![tactic(auto)]
+
 mod counter;
 mod laws;
 mod sheet;

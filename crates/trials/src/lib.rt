@@ -1,3 +1,5 @@
+#![tactic(auto)]
+
 // Cases that are run: bounds of the registers and of a card's room.
 
 #[cfg(test)]

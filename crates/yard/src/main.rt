@@ -1,3 +1,5 @@
+#![tactic(auto)]
+
 // Plays a script on one board: reading it, printing what its calls answer, the views and the accounts.
 ghost use Rattle.std.specs.Prelude.{◌≡◌, ◌+◌, ◌*◌};
 ghost use Rattle.board.specs.Ports.{bit};
