@@ -1,7 +1,7 @@
 -- The makes of rack: what stands at their levels, and the rules of their lines.
 use Rattle.std.specs.Prelude.{ℕ, ◌-◌, Bool, true, false, cond, ◌&&◌, List, [], length, ◌==◌, nat_lt}
 use Rattle.rack.specs.declared.Kind.TheVariants.{Empty, Giver, Taker}
-use Rattle.rack.specs.Meaning.{Level, Event, arrival, giving, taking, last_told, LineRule, Levels, is_empty}
+use Rattle.rack.specs.Meaning.{Level, arrival, giving, taking, last_told, LineRule, Levels, is_empty}
 
 -- a level with no card
 abbrev pub nothing : Level
