@@ -4,10 +4,10 @@ use Rattle.journal.specs.Layout.{listed, unpacked}
 use Rattle.journal.proofs.Codec.{reads_back}
 use Rattle.journal.proofs.Line.pack.Goals as goal
 
-pub returns-then-is-listed : goal.returns-then-is-listed
-returns-then-is-listed c =
-    let there : listed c.args.self.now ≡ true = sym c.if-is-listed.ensures in
+pub returns-then-is_listed : goal.returns-then-is_listed
+returns-then-is_listed c =
+    let there : listed c.args.self.now ≡ true = sym c.if-is_listed.ensures in
     record {
-      answer = ap Ok c.to-word.ensures ∙ sym (cond-true _ _ _ there);
-      reads_back = ap unpacked c.to-word.ensures ∙ reads_back c.args.self.now there;
+      answer = ap Ok c.to_word.ensures ∙ sym (cond-true _ _ _ there);
+      reads_back = ap unpacked c.to_word.ensures ∙ reads_back c.args.self.now there;
     }

@@ -14,6 +14,6 @@ returns-in-Some c =
 
 pub returns-in-None : goal.returns-in-None
 returns-in-None c =
-    let e : Err c.not-a-line.result ≡ unpacked c.args.word =
-    ap Err c.not-a-line.ensures ∙ ap (λ o. or_refused o c.args.word) c.in-None.ensures in
+    let e : Err c.not_a_line.result ≡ unpacked c.args.word =
+    ap Err c.not_a_line.ensures ∙ ap (λ o. or_refused o c.args.word) c.in-None.ensures in
     record { answer = e; packs_back = tt; accepted = λ l h. e ∙ accepts c.args.word l h }
