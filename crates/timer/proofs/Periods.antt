@@ -1,7 +1,7 @@
 -- The closed forms of OUT, by the state of the counter after each clock of a period.
-use Rattle.std.proofs.Common.{◌≡◌, ℕ, zero, suc, ◌+◌, ◌-◌, ◌*◌, ◌/◌, ◌%◌, ◌<◌, ◌≤◌, Bool, true, false, cond, not, ◌&&◌, eqb, ltb, leb, ◌⊎◌, Some, None, sym, refl, ap, ◌∙◌, inl, inr, ⊎_elim, mod-lt, mod-eq_of_lt, suc-mul, add_comm, suc-add, div-add-mod', zero-add, zero-mul, arith}
+use Rattle.std.proofs.Common.{◌≡◌, ℕ, zero, suc, ◌+◌, ◌-◌, ◌*◌, ◌/◌, ◌%◌, ◌<◌, ◌≤◌, Bool, true, false, cond, not, ◌&&◌, eqb, ltb, leb, Some, None, sym, refl, ap, ◌∙◌, ⊎_elim, mod-lt, mod-eq_of_lt, suc-mul, add_comm, suc-add, div-add-mod', zero-add, zero-mul, arith}
 use native.Mathlib.Nat.{suc-mod, mod_self}
-use Rattle.std.proofs.lemmas.Bool.{cases_lt, cases_eq, lt-ltb, le-ltb, lt-leb, le-leb, eq-eqb, ne_eqb, eqb-false}
+use Rattle.std.proofs.lemmas.Bool.{cases_lt, cases_eq, lt-ltb, le-ltb, eq-eqb, ne_eqb}
 use Rattle.std.proofs.lemmas.Bool.Decides.{nat_tests}
 use Rattle.timer.specs.declared.counter.Access.{Access}
 use Rattle.timer.specs.declared.counter.Access.TheVariants.{Low, High, LowThenHigh}
@@ -10,7 +10,7 @@ use Rattle.timer.specs.declared.counter.Event.TheVariants.{Clock}
 use Rattle.timer.specs.declared.counter.Mode.{Mode}
 use Rattle.timer.specs.declared.counter.Mode.TheVariants.{TerminalCount, RateGenerator, SquareWave}
 use Rattle.timer.specs.declared.counter.Phase.TheVariants.{First, Running}
-use Rattle.timer.specs.Counting.{stepped, start, start_out, less, written, falls_short}
+use Rattle.timer.specs.Counting.{stepped, start_out, less, written, falls_short}
 use Rattle.timer.specs.Periods.{clocks, prepared, count_of, out_form, out_after, ClosedForm}
 
 -- the clocks of a sum, and whole periods

@@ -1,5 +1,5 @@
 -- The watchdog's law: counter 3 sees only the rises of OUT 0, each with the latch that it found.
-use Rattle.std.proofs.Common.{◌≡◌, ℕ, zero, suc, ◌-◌, ◌%◌, ◌<◌, ◌≤◌, Bool, true, false, cond, not, ◌&&◌, eqb, ltb, leb, ◌⊎◌, List, [], ◌∷◌, drop, Some, None, Option, sym, refl, ap, ◌∙◌, inl, inr, ⊎_elim, arith}
+use Rattle.std.proofs.Common.{◌≡◌, ℕ, ◌-◌, ◌%◌, ◌<◌, ◌≤◌, Bool, true, false, cond, not, ◌&&◌, eqb, ltb, leb, ◌⊎◌, List, [], ◌∷◌, drop, Some, None, Option, sym, refl, ap, ◌∙◌, inl, inr, ⊎_elim, arith}
 use Rattle.std.proofs.lemmas.Bool.{cases_lt, le-leb, lt-leb}
 use Rattle.std.proofs.lemmas.Bool.Decides.{nat_tests, eqb_tells}
 use Rattle.timer.specs.declared.counter.Access.TheVariants.{Low}
@@ -12,7 +12,6 @@ use Rattle.timer.specs.declared.counter.Phase.TheVariants.{Unset, Empty, First, 
 use Rattle.timer.specs.declared.sheet.Control.{Control}
 use Rattle.timer.specs.declared.sheet.CounterName.{CounterName}
 use Rattle.timer.specs.declared.sheet.CounterName.TheVariants.{System, Speaker}
-use Rattle.timer.specs.declared.timers.CountPort.{CountPort}
 use Rattle.timer.specs.declared.timers.CountPort.TheVariants.{System as SystemPort, Speaker as SpeakerPort, Watchdog as WatchdogPort}
 use Rattle.timer.specs.declared.timers.Timers.{Timers}
 use Rattle.timer.specs.Counting.{stepped, is_set_up, written, less, after_read, turned, taken, whole, falls_short, after_whole, out_at_byte, wrote, ran, loaded, terminal, rate, square, counted, clocked}

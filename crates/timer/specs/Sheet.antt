@@ -1,5 +1,5 @@
 -- The control bytes of port 0043: bits 7-6 the counter, bits 5-4 its bytes, bits 3-1 the mode, bit 0 zero.
-use Rattle.std.specs.Prelude.{ℕ, ◌+◌, ◌*◌, ◌/◌, ◌%◌, Bool, true, false, cond, not, ◌&&◌, ◌||◌, Some, None, Option, ◌==◌}
+use Rattle.std.specs.Prelude.{ℕ, ◌+◌, ◌*◌, ◌/◌, ◌%◌, Bool, cond, ◌&&◌, ◌||◌, Some, None, Option, ◌==◌}
 use Rattle.timer.specs.declared.counter.Access.{Access}
 use Rattle.timer.specs.declared.counter.Access.TheVariants.{Low, High, LowThenHigh}
 use Rattle.timer.specs.declared.counter.Mode.{Mode}

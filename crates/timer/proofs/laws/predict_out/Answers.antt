@@ -1,11 +1,11 @@
-use Rattle.std.proofs.Common.{◌≡◌, ◌<◌, true, false, Some, sym, ap, ◌∙◌, arith, rules}
+use Rattle.std.proofs.Common.{◌≡◌, true, false}
 use Rattle.timer.specs.Counting.{falls_short, written}
 use Rattle.timer.specs.Periods.{count_of, out_form}
 use Rattle.timer.proofs.Periods.{closed_form, short_out, first_out, later_out}
 use Rattle.timer.proofs.laws.predict_out.Goals as goal
 
-pub returns-then-falls-short : goal.returns-then-falls-short
-returns-then-falls-short c =
+pub returns-then-falls_short : goal.returns-then-falls_short
+returns-then-falls_short c =
     let e : falls_short c.args.mode (count_of c.args.access c.args.low c.args.high) ≡ true = cc in
     record { answer = short_out c.args.mode c.args.access c.args.low c.args.high c.args.clocks e; law = closed_form }
 
