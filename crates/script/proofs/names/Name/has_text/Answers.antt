@@ -6,5 +6,5 @@ use Rattle.script.proofs.names.Name.has_text.Goals as goal
 
 pub returns : goal.returns
 returns c =
-    same_from_decides c.eq.result _ (slice_eq-Decides Decides-eqb _ _ _ c.eq.ensures) (bytes_eq-Decides c.args.text.now c.as-bytes.result.now) ∙
-    ap (bytes_eq c.args.text.now) (c.as-bytes.ensures.value ∙ c.text.ensures)
+    same_from_decides c.eq.result _ (slice_eq-Decides Decides-eqb _ _ _ c.eq.ensures) (bytes_eq-Decides c.args.text.now c.as_bytes.result.now) ∙
+    ap (bytes_eq c.args.text.now) (c.as_bytes.ensures.value ∙ c.text.ensures)
