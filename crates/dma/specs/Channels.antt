@@ -1,5 +1,5 @@
 -- One channel: its mode bits, its address, and one unit further.
-use Rattle.std.specs.Prelude.{◌≡◌, ℕ, ◌+◌, ◌%◌, Bool, true, false, cond, not, ◌==◌, bit_and}
+use Rattle.std.specs.Prelude.{ℕ, ◌+◌, ◌%◌, Bool, true, cond, not, ◌==◌, bit_and}
 use Rattle.dma.specs.declared.channel.Channel.{Channel}
 
 -- the byte has a bit of the mask

@@ -1,5 +1,5 @@
 -- What a function byte asks for: command in bits 7-4, 0 in bit 3, channel in bits 2-0.
-use Rattle.std.specs.Prelude.{◌≡◌, ℕ, ◌/◌, ◌%◌, Bool, true, false, cond, ◌&&◌, ◌||◌, Some, None, Option, ◌==◌, nat_le}
+use Rattle.std.specs.Prelude.{ℕ, ◌/◌, ◌%◌, Bool, cond, ◌&&◌, ◌||◌, Some, None, Option, ◌==◌, nat_le}
 use Rattle.dma.specs.declared.command.Direction.{Direction}
 use Rattle.dma.specs.declared.command.Direction.TheVariants.{Function, Write, Read}
 use Rattle.dma.specs.declared.command.Part.{Part}
