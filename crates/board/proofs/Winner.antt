@@ -1,9 +1,9 @@
 -- What a search through the levels and channels has found.
-use Rattle.std.proofs.Common.{◌≡◌, ℕ, ◌<◌, ◌≤◌, Bool, true, false, cond, eqb, ltb, sym, refl, ◌∙◌, arith}
+use Rattle.std.proofs.Common.{◌≡◌, ℕ, ◌<◌, true, false, eqb, ltb, refl, arith}
 use Rattle.std.proofs.lemmas.Bool.{lt-ltb, and_from, and_right, ne_eqb}
 use Rattle.rack.specs.Meaning.{Levels}
 use Rattle.board.specs.declared.state.Board.{Board}
-use Rattle.board.specs.Grant.{least, open_at, server, contends, winner_of, serving}
+use Rattle.board.specs.Grant.{open_at, server, contends, winner_of, serving}
 use Rattle.board.proofs.Least.{least_first}
 
 -- the channel n serves the level l, and no lower level contends

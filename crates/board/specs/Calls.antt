@@ -1,5 +1,5 @@
 -- Arrival, load and store: what the processor's side of the bus answers and leaves.
-use Rattle.std.specs.Prelude.{ℕ, ◌+◌, Bool, true, false, cond, List, length, Ok, Err, Result, nat_le, slice_set}
+use Rattle.std.specs.Prelude.{ℕ, ◌+◌, false, cond, List, length, Ok, Err, Result, nat_le, slice_set}
 use Rattle.fault.specs.declared.Fault.{Fault}
 use Rattle.fault.specs.declared.Refusal.TheVariants.{JournalFull, TooLarge}
 use Rattle.fault.specs.Numbers.{own}

@@ -1,9 +1,7 @@
 -- Worked cases, from power-on through the ports, by the rules together.
-use Rattle.std.specs.Prelude.{◌≡◌, ℕ, zero, suc, Bool, true, false, cond, List, [], ◌∷◌, ◌++◌, replicate, Ok, Err, Result, ◌==◌, slice_index_or}
-use Rattle.fault.specs.declared.Fault.{Fault}
+use Rattle.std.specs.Prelude.{◌≡◌, ℕ, zero, suc, Bool, true, false, cond, List, [], ◌∷◌, ◌++◌, replicate, Ok, Err, ◌==◌, slice_index_or}
 use Rattle.fault.specs.declared.Refusal.TheVariants.{CountOfOne}
 use Rattle.fault.specs.Numbers.{own}
-use Rattle.dma.specs.declared.channel.Channel.{Channel}
 use Rattle.memory.specs.Meaning.{Contents}
 use Rattle.rack.specs.declared.Kind.TheVariants.{Empty, Giver}
 use Rattle.rack.specs.Meaning.{Level, Levels}

@@ -1,12 +1,11 @@
 -- What a port access answers, and the board after it.
-use Rattle.std.specs.Prelude.{ℕ, ◌+◌, ◌*◌, ◌%◌, Bool, true, false, cond, ◌&&◌, Some, None, Ok, Err, Option, Result, ◌==◌}
+use Rattle.std.specs.Prelude.{ℕ, ◌+◌, ◌*◌, ◌%◌, Bool, true, cond, ◌&&◌, Some, None, Ok, Err, Option, Result, ◌==◌}
 use Rattle.fault.specs.declared.Fault.{Fault}
 use Rattle.fault.specs.declared.Refusal.{Refusal}
 use Rattle.fault.specs.declared.Refusal.TheVariants.{NoSuchPort}
 use Rattle.fault.specs.Numbers.{own}
 use Rattle.dma.specs.Channels.{has}
 use Rattle.dma.specs.Registers.{WriteOutcome, ReadOutcome, function_written, data_written, data_read}
-use Rattle.timer.specs.declared.timers.CountPort.{CountPort}
 use Rattle.timer.specs.declared.timers.CountPort.TheVariants.{System, Speaker, Watchdog}
 use Rattle.timer.specs.declared.timers.Timers.{Timers}
 use Rattle.timer.specs.Timing.{out3_rises, ticked, acknowledged, controlled, control_answer, watchdog_controlled, watchdog_answer, count_written, write_answer, count_read, read_from, gated}

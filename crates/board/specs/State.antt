@@ -1,5 +1,5 @@
 -- The board's registers, and the board with one group of them put anew.
-use Rattle.std.specs.Prelude.{ℕ, Bool, true, false, List, [], ◌∷◌, slice_set}
+use Rattle.std.specs.Prelude.{ℕ, false, List, [], ◌∷◌, slice_set}
 use Rattle.dma.specs.declared.channel.Channel.{Channel}
 use Rattle.dma.specs.declared.controller.Controller.{Controller}
 use Rattle.dma.specs.Channels.{fresh}
