@@ -4,7 +4,7 @@ use Rattle.std.proofs.lemmas.Bool.{and_parts, and_from, not-true, ltb-true, lt-l
 use Rattle.rack.specs.Meaning.{Levels}
 use Rattle.board.specs.declared.state.Board.{Board}
 use Rattle.board.specs.State.{channel_at}
-use Rattle.board.specs.Grant.{least, open_at, server, contends, winner_of, serving, Open, Contends, Wins}
+use Rattle.board.specs.Grant.{open_at, server, contends, winner_of, serving, Open, Contends, Wins}
 use Rattle.board.proofs.Least.{least_passes, least_most, least_below}
 
 -- the tests and what they say

@@ -1,5 +1,5 @@
 -- Which level wins the bus, and which channel serves it.
-use Rattle.std.specs.Prelude.{◌≡◌, ℕ, zero, suc, ◌+◌, ◌%◌, ◌<◌, ◌≤◌, Bool, true, false, cond, not, ◌&&◌, List, ◌==◌, nat_lt}
+use Rattle.std.specs.Prelude.{◌≡◌, ℕ, zero, suc, ◌<◌, ◌≤◌, Bool, true, false, cond, not, ◌&&◌, List, ◌==◌, nat_lt}
 use Rattle.dma.specs.declared.controller.Mark.TheVariants.{Request}
 use Rattle.dma.specs.Registers.{marked, with_status}
 use Rattle.rack.specs.Meaning.{Levels}
