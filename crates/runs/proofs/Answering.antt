@@ -2,14 +2,12 @@
 use Rattle.std.proofs.Common.{◌≡◌, ℕ, ◌+◌, ◌<◌, ◌≤◌, List, [], ◌∷◌, ◌++◌, length, get_or, take, IfOk, Ok, Result, sym, refl, ap, ◌∙◌, subst, ⊎_elim, arith}
 use Rattle.std.proofs.lemmas.List.{take_more, get_or_default, get_or_append_left, get_or_push, length_push}
 use Rattle.std.proofs.lemmas.Bool.{cases_lt}
-use Rattle.memory.specs.Meaning.{Contents}
-use Rattle.rack.specs.Meaning.{Levels}
 use Rattle.runs.specs.declared.Call.{Call}
 use Rattle.runs.specs.declared.Call.TheVariants.{Tick}
 use Rattle.runs.specs.declared.Answer.{Answer}
 use Rattle.runs.specs.declared.Answer.TheVariants.{Done}
 use Rattle.runs.specs.World.{World, opening, after, answer, run}
-use Rattle.runs.specs.Law.{Answered, Goes_on, Lawful, RunLaw}
+use Rattle.runs.specs.Law.{Answered, Goes_on, RunLaw}
 use Rattle.runs.proofs.Runs.{run-++, run_push}
 use Rattle.runs.proofs.Laws.{law_of_runs}
 

@@ -1,8 +1,7 @@
 -- A grant and its carry.
-use Rattle.std.proofs.Common.{◌≡◌, ℕ, zero, suc, ◌+◌, ◌*◌, ◌/◌, ◌%◌, ◌^◌, ◌<◌, ◌≤◌, Bool, true, false, cond, not, ◌&&◌, ◌||◌, eqb, ltb, leb, ◌≢◌, List, [], ◌∷◌, ◌++◌, map, length, get_or, take, set, Ok, Err, Result, sym, refl, ap, ◌∙◌, subst, ⊎_elim, append-nil, arith, length-set}
+use Rattle.std.proofs.Common.{◌≡◌, ℕ, ◌+◌, ◌*◌, ◌/◌, ◌%◌, ◌^◌, ◌<◌, Bool, true, false, cond, not, ◌&&◌, eqb, ltb, leb, List, [], ◌∷◌, ◌++◌, map, length, get_or, take, set, Ok, Err, Result, sym, refl, ap, ◌∙◌, subst, append-nil, arith, length-set}
 use Rattle.std.proofs.lemmas.List.{take_more_set, get_or-set_same}
-use Rattle.std.proofs.lemmas.Bool.{and_parts, and_from, eqb-true, eq-eqb, both_ways, cond-true, cond-false, ltb-true, lt-ltb, le-leb, cond_both}
-use Rattle.std.proofs.lemmas.Bool.Decides.{nat_tests}
+use Rattle.std.proofs.lemmas.Bool.{and_from, eqb-true, both_ways, cond-true, cond-false, ltb-true, lt-ltb, le-leb, cond_both}
 use Rattle.fault.specs.declared.Fault.{Fault}
 use Rattle.fault.specs.declared.Refusal.{Refusal}
 use Rattle.fault.specs.declared.Refusal.TheVariants.{JournalFull}
@@ -11,28 +10,24 @@ use Rattle.dma.specs.declared.channel.Channel.{Channel}
 use Rattle.dma.specs.Channels.{after as onward, memory_address, stepped, with_mask}
 use Rattle.dma.specs.Registers.{no_channel, nth_channel}
 use Rattle.timer.specs.declared.timers.Timers.{Timers}
-use Rattle.journal.specs.declared.Kind.{Kind}
 use Rattle.journal.specs.declared.Line.{Line}
 use Rattle.journal.specs.Layout.{word, listed, suits}
-use Rattle.memory.specs.Meaning.{Contents, put as put_byte, written}
-use Rattle.rack.specs.Meaning.{Levels, Level, fits, gives, takes}
+use Rattle.memory.specs.Meaning.{put as put_byte}
+use Rattle.rack.specs.Meaning.{Levels, fits, gives, takes}
 use Rattle.board.specs.declared.carry.Motion.{Motion}
 use Rattle.board.specs.declared.carry.Motion.TheVariants.{ToMemory, ToCard, Verify}
 use Rattle.board.specs.declared.carry.Transfer.{Transfer}
-use Rattle.board.specs.declared.state.Arbitration.{Arbitration}
 use Rattle.board.specs.declared.state.Board.{Board}
 use Rattle.board.specs.State.{channel_at}
-use Rattle.board.specs.Carry.{wide_mode, motion_of, transfer, checked, fetched, landed, unit_of, memory_moved, rack_moved, line_of, line_kind, channel_stepped, ended, counted, told_if, Outcome, these, performed, failing, outcome, carried}
-use Rattle.board.specs.Grant.{Granted, granted, winner_of, serving, requested, won_by}
-use Rattle.board.specs.Calls.{cycled}
-use Rattle.runs.specs.declared.Answer.{Answer}
+use Rattle.board.specs.Carry.{wide_mode, motion_of, transfer, checked, fetched, landed, unit_of, memory_moved, rack_moved, line_of, line_kind, counted, told_if, Outcome, these, performed, failing, outcome, carried}
+use Rattle.board.specs.Grant.{Granted, winner_of, serving, requested, won_by}
 use Rattle.runs.specs.World.{World, after_carry, carry_outcome, carried_or_refused}
 use Rattle.runs.specs.Law.{words, is_store, post, posted, units, is_given, is_taken, Making, by_carry, making, is_line, of_channel, by_dma}
 use Rattle.runs.proofs.Step.{Served, idle, line, advanced, AllListed}
-use Rattle.runs.proofs.Sound.{Dog, SoundBoard, Sound}
+use Rattle.runs.proofs.Sound.{Dog, Sound}
 use Rattle.runs.proofs.Tables.{set_small, other_stays}
 use Rattle.runs.proofs.Racks.{Fit, fit_first, gave_waiting, gave_taken, gave_fit, took_taken, took_waiting, took_fit, told_waiting, told_taken, told_fit}
-use Rattle.runs.proofs.Checks.{winner_low, server_low, Passed, passed, card_width, giver_gives, taker_takes}
+use Rattle.runs.proofs.Checks.{winner_low, server_low, passed, card_width, giver_gives, taker_takes}
 
 -- the lines that an outcome owes
 abbrev pub owed_of : Outcome → List Making

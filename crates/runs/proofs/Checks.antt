@@ -1,25 +1,20 @@
 -- What carry's checks show of a transfer that passed them.
-use Rattle.std.proofs.Common.{◌≡◌, ℕ, zero, suc, ◌+◌, ◌*◌, ◌/◌, ◌%◌, ◌^◌, ◌<◌, ◌≤◌, Bool, true, false, cond, not, ◌&&◌, ◌||◌, eqb, ltb, leb, ◌⊎◌, List, [], ◌∷◌, length, get_or, Ok, Err, Result, sym, refl, ap, ◌∙◌, subst, inl, inr, ⊎_elim, arith}
-use Rattle.std.proofs.lemmas.Bool.{and_parts, and_from, and_left, not-true, not-false, or_cases, ltb-true, lt-ltb, le-leb, lt-leb, leb-false, eqb-true, eqb-false, both_ways, cond-true, cond-false, cases_Bool, cases_lt}
+use Rattle.std.proofs.Common.{◌≡◌, ℕ, zero, suc, ◌<◌, ◌≤◌, Bool, true, false, cond, not, ◌&&◌, ◌||◌, eqb, ltb, List, length, Ok, Err, sym, refl, ◌∙◌, subst, arith}
+use Rattle.std.proofs.lemmas.Bool.{and_parts, and_from, not-true, ltb-true, eqb-false, both_ways, cond-true, cond-false}
 use Rattle.std.proofs.lemmas.Bool.Decides.{nat_tests}
 use Rattle.fault.specs.declared.Fault.{Fault}
-use Rattle.dma.specs.declared.channel.Channel.{Channel}
-use Rattle.dma.specs.Channels.{has, after, memory_address}
-use Rattle.journal.specs.declared.Line.{Line}
-use Rattle.journal.specs.Layout.{listed, suits}
+use Rattle.dma.specs.Channels.{has, memory_address}
 use Rattle.journal.specs.Room.{full}
 use Rattle.memory.specs.Meaning.{Answer, Contents}
 use Rattle.rack.specs.declared.Kind.{Kind}
 use Rattle.rack.specs.declared.Kind.TheVariants.{Empty, Giver, Taker}
 use Rattle.rack.specs.Meaning.{Level, Levels, able, ready, gives, takes, fits, is_giver, is_taker}
-use Rattle.board.specs.declared.carry.Motion.{Motion}
 use Rattle.board.specs.declared.carry.Motion.TheVariants.{ToMemory, ToCard, Verify}
 use Rattle.board.specs.declared.carry.Transfer.{Transfer}
 use Rattle.board.specs.declared.state.Board.{Board}
 use Rattle.board.specs.State.{channel_at}
-use Rattle.board.specs.Grant.{least, open_at, server, contends, winner_of, serving}
-use Rattle.board.specs.Carry.{wide_mode, motion_of, same, asked, suits_card, serves, memory_answer, transfer, by_memory, checked, fetched, unit_of, line_of}
-use Rattle.runs.proofs.Racks.{fit_first}
+use Rattle.board.specs.Grant.{least, server, contends, winner_of, serving}
+use Rattle.board.specs.Carry.{wide_mode, motion_of, same, asked, suits_card, serves, memory_answer, transfer, by_memory, checked}
 
 -- the least number that passes passes
 least_passes : (p : ℕ → Bool) (n : ℕ) → least p n < n → p (least p n) ≡ true

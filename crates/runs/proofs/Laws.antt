@@ -1,40 +1,38 @@
 -- Each call keeps the laws of a step, and what the worlds of a run keep.
-use Rattle.std.proofs.Common.{◌≡◌, ℕ, zero, suc, ◌+◌, ◌%◌, ◌^◌, ◌<◌, ◌≤◌, Bool, true, false, cond, not, ◌&&◌, eqb, ltb, leb, List, [], ◌∷◌, ◌++◌, map, length, take, set, Ok, Err, Result, sym, refl, ap, ◌∙◌, subst, append-nil, arith}
+use Rattle.std.proofs.Common.{◌≡◌, ℕ, zero, suc, ◌%◌, ◌^◌, ◌<◌, Bool, true, false, cond, ◌&&◌, eqb, ltb, leb, List, [], ◌∷◌, ◌++◌, map, length, take, Ok, Err, Result, sym, refl, ap, ◌∙◌, subst, append-nil, arith}
 use mathlib.Core.Bool.{and-false}
 use Rattle.std.proofs.lemmas.List.{take_more_set}
-use Rattle.std.proofs.lemmas.Bool.{and_from, both_ways, cond-true, cond-false, leb-false, lt-ltb, cond_both}
-use Rattle.std.proofs.lemmas.Bool.Decides.{nat_tests}
+use Rattle.std.proofs.lemmas.Bool.{and_from, both_ways, cond-false, leb-false, lt-ltb, cond_both}
 use Rattle.fault.specs.declared.Fault.{Fault}
 use Rattle.fault.specs.declared.Refusal.TheVariants.{TooLarge, JournalFull, ArrivalNotTaken}
 use Rattle.fault.specs.Numbers.{own}
-use Rattle.dma.specs.Channels.{has}
 use Rattle.timer.specs.declared.timers.Timers.{Timers}
 use Rattle.timer.specs.declared.counter.Event.TheVariants.{Clock}
 use Rattle.timer.specs.Counting.{written as count_meant, stepped as counter_stepped}
 use Rattle.timer.specs.Timing.{rises}
-use Rattle.timer.proofs.Watching.{Follows, no_rise, rises_same, Waits}
-use Rattle.journal.specs.Layout.{word, listed}
+use Rattle.timer.proofs.Watching.{no_rise, rises_same, Waits}
+use Rattle.journal.specs.Layout.{word}
 use Rattle.journal.specs.Room.{full}
-use Rattle.memory.specs.Meaning.{Answer, Contents, put, written, from_memory}
-use Rattle.rack.specs.Meaning.{Levels, Event, arrival, arrives, arrive_answer, arrived, joined, with_level}
+use Rattle.memory.specs.Meaning.{Answer, Contents, put, from_memory}
+use Rattle.rack.specs.Meaning.{Levels, arrival, arrives, arrive_answer, arrived, joined, with_level}
 use Rattle.board.specs.declared.state.Board.{Board}
 use Rattle.dma.specs.Registers.{nth_channel}
 use Rattle.journal.specs.declared.Line.{Line}
 use Rattle.board.specs.State.{channel_at, started, first_channels}
-use Rattle.board.specs.Ports.{port_of, port_written, port_read, tick_after, acknowledge_after}
-use Rattle.board.specs.Calls.{arrival_answer, arrival_after, store_line, Stored, these_stored, store_by, stored}
+use Rattle.board.specs.Ports.{port_of}
+use Rattle.board.specs.Calls.{arrival_answer, arrival_after, store_line, Stored, these_stored, store_by}
 use Rattle.runs.specs.declared.Call.{Call}
 use Rattle.runs.specs.declared.Call.TheVariants.{ReadPort, WritePort, Tick, Acknowledge, Arrive, Load, Store, Reset, Grant}
 use Rattle.runs.specs.declared.Answer.{Answer as CallAnswer}
-use Rattle.runs.specs.declared.Answer.TheVariants.{Done, Byte, Carried, Refused}
-use Rattle.runs.specs.World.{World, world, opening, on_board, after_store, after_carry, store_outcome, carry_outcome, after, answer, done_or_refused, run}
-use Rattle.runs.specs.Law.{words, lines, is_done, post, units, is_given, is_taken, brought, Making, by_store, making, owed_by, of_channel, touches, names, out_0, rise, restarts, lifts, by_dma, Lawful, RunLaw}
-use Rattle.runs.proofs.Step.{Step, Served, idle, line, AllListed}
+use Rattle.runs.specs.declared.Answer.TheVariants.{Done}
+use Rattle.runs.specs.World.{World, opening, on_board, after_store, after_carry, store_outcome, carry_outcome, after, answer, done_or_refused, run}
+use Rattle.runs.specs.Law.{words, is_done, post, units, is_given, is_taken, brought, Making, by_store, making, owed_by, of_channel, touches, out_0, rise, restarts, lifts, by_dma, Lawful, RunLaw}
+use Rattle.runs.proofs.Step.{Step, idle, AllListed}
 use Rattle.runs.proofs.Sound.{Dog, SoundBoard, Sound}
 use Rattle.runs.proofs.Racks.{Fit, arrived_waiting, arrived_taken, arrived_fit}
 use Rattle.runs.proofs.Ports.{BoardStep, same_step, written_step, read_step, tick_step, acknowledge_step, armed_waits}
 use Rattle.runs.proofs.Checks.{not_full}
-use Rattle.runs.proofs.Carries.{CarryStep, carry_step}
+use Rattle.runs.proofs.Carries.{carry_step}
 use Rattle.runs.proofs.Runs.{run_law}
 
 -- A call that works on the board alone and puts down no line.

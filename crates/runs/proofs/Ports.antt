@@ -1,36 +1,29 @@
 -- What port accesses, ticks and acknowledgements keep of the board.
-use Rattle.std.proofs.Common.{◌≡◌, ℕ, ◌%◌, ◌<◌, Bool, true, false, cond, not, ◌&&◌, ◌||◌, eqb, List, length, Some, None, Ok, Err, Option, Result, sym, refl, ap, ◌∙◌, subst, arith}
+use Rattle.std.proofs.Common.{◌≡◌, ℕ, ◌<◌, Bool, true, false, cond, not, ◌&&◌, eqb, List, length, Some, None, Ok, Err, Option, sym, refl, ap, ◌∙◌, subst}
 use Rattle.std.proofs.lemmas.Bool.{both_ways}
-use Rattle.fault.specs.declared.Refusal.{Refusal}
 use Rattle.fault.specs.declared.Refusal.TheVariants.{CountOfOne, WrongWay, NotListed}
 use Rattle.dma.specs.declared.channel.Channel.{Channel}
-use Rattle.dma.specs.declared.command.Action.{Action}
-use Rattle.dma.specs.declared.command.Action.TheVariants.{Select, SetMask, ClearMask, MasterClear, Status, Register}
 use Rattle.dma.specs.declared.command.Direction.TheVariants.{Function as FunctionByte, Write}
 use Rattle.dma.specs.Channels.{has}
 use Rattle.dma.specs.Commands.{decided}
-use Rattle.dma.specs.Registers.{nth_channel, WriteOutcome, function_by, data_by}
+use Rattle.dma.specs.Registers.{nth_channel, WriteOutcome}
 use Rattle.timer.specs.declared.counter.Access.TheVariants.{Low}
 use Rattle.timer.specs.declared.counter.Counter.{Counter}
 use Rattle.timer.specs.declared.counter.Event.TheVariants.{Clock, Byte}
-use Rattle.timer.specs.declared.counter.Mode.{Mode}
-use Rattle.timer.specs.declared.counter.Mode.TheVariants.{TerminalCount, RateGenerator, SquareWave}
+use Rattle.timer.specs.declared.counter.Mode.TheVariants.{TerminalCount}
 use Rattle.timer.specs.declared.counter.Phase.{Phase}
 use Rattle.timer.specs.declared.counter.Phase.TheVariants.{Unset, Empty, First, Again, Running}
-use Rattle.timer.specs.declared.sheet.Control.{Control as ControlFields}
-use Rattle.timer.specs.declared.timers.CountPort.{CountPort}
 use Rattle.timer.specs.declared.timers.CountPort.TheVariants.{System, Speaker, Watchdog}
 use Rattle.timer.specs.declared.timers.Timers.{Timers}
-use Rattle.timer.specs.Counting.{stepped, answered, is_set_up, taken, took, whole, falls_short, written, wrote, after_whole, out_at_byte, set_up, after_read}
-use Rattle.timer.specs.Sheet.{control_of}
-use Rattle.timer.specs.Timing.{rises, out3_rises, ticked, acknowledged, controlled, watchdog_controlled, watchdog_answer, count_written, write_answer, count_read, gated, with_watchdog}
-use Rattle.timer.specs.Watchdog.{tick, control, system_count, speaker_count, count_read_at, gate_put, acknowledgement, Watches}
-use Rattle.timer.proofs.Watching.{Follows, follows, no_rise, rises_same, read_low, read_out, dog, Waits, count_waits}
+use Rattle.timer.specs.Counting.{stepped, answered, is_set_up, taken, took, whole, falls_short, written, wrote, after_whole, out_at_byte, set_up}
+use Rattle.timer.specs.Timing.{rises, out3_rises, gated, with_watchdog}
+use Rattle.timer.specs.Watchdog.{tick, control, system_count, speaker_count, count_read_at, acknowledgement}
+use Rattle.timer.proofs.Watching.{Follows, follows, no_rise, rises_same, read_out, dog, Waits, count_waits}
 use Rattle.board.specs.declared.ports.Port.{Port}
 use Rattle.board.specs.declared.ports.Port.TheVariants.{Function, Data, Count, Control, WatchdogControl, SystemControlB, Arbiter, SystemControlA}
 use Rattle.board.specs.declared.state.Board.{Board}
 use Rattle.board.specs.State.{channel_at}
-use Rattle.board.specs.Ports.{port_of, at_port, masked_if, timed, answered_if, write_by, read_by, tick_after, acknowledge_after}
+use Rattle.board.specs.Ports.{at_port, masked_if, answered_if, write_by, read_by, tick_after, acknowledge_after}
 use Rattle.runs.specs.World.{done_or_refused}
 use Rattle.runs.specs.Law.{is_done, names, reaches_watchdog, clears_mask}
 use Rattle.runs.proofs.Sound.{Dog, SoundBoard}

@@ -1,8 +1,8 @@
 -- What arrivals, gives, takes and being told the last unit leave at each level.
-use Rattle.std.proofs.Common.{◌≡◌, ℕ, ◌+◌, ◌-◌, ◌<◌, Bool, true, false, cond, not, ◌&&◌, ◌||◌, eqb, ltb, List, [], ◌∷◌, ◌++◌, length, get_or, drop, sym, refl, ap, ◌∙◌, subst, append-nil, arith}
-use Rattle.std.proofs.lemmas.Bool.{eqb-true, and_parts, and_from, both_ways, cond-true, ltb-true}
+use Rattle.std.proofs.Common.{◌≡◌, ℕ, Bool, true, false, cond, ◌&&◌, eqb, ltb, List, [], ◌∷◌, ◌++◌, length, get_or, drop, sym, refl, ap, ◌∙◌, subst, append-nil, arith}
+use Rattle.std.proofs.lemmas.Bool.{eqb-true, and_parts, both_ways, cond-true}
 use Rattle.std.proofs.lemmas.Bool.Decides.{nat_tests}
-use Rattle.rack.specs.Meaning.{Level, Levels, Event, arrival, giving, taking, last_told, is_giver, is_taker, fits, all_fit, gives, takes, arrives, put, with_level, joined, emptied, filled, lined, arrived, gave, took, told}
+use Rattle.rack.specs.Meaning.{Level, Levels, arrival, giving, taking, last_told, is_giver, fits, all_fit, gives, takes, arrives, with_level, joined, emptied, filled, lined, gave, took}
 use Rattle.rack.proofs.Fit.{fit_push}
 use Rattle.board.specs.Carry.{told_if}
 

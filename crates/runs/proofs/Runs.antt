@@ -1,7 +1,6 @@
 -- The law over whole runs, from the laws of one step.
-use Rattle.std.proofs.Common.{◌≡◌, ℕ, zero, suc, ◌+◌, ◌-◌, ◌*◌, ◌%◌, ◌<◌, ◌≤◌, Bool, true, false, cond, not, ◌&&◌, eqb, leb, ◌⊎◌, List, [], ◌∷◌, ◌++◌, map, length, get_or, take, drop, Ok, sym, refl, ap, ◌∙◌, subst, subst₂, inl, inr, append_assoc, append-nil, arith, drop_at}
+use Rattle.std.proofs.Common.{◌≡◌, ℕ, zero, suc, ◌*◌, ◌%◌, ◌<◌, Bool, true, false, cond, not, ◌&&◌, eqb, leb, List, [], ◌∷◌, ◌++◌, map, length, get_or, drop, Ok, sym, refl, ap, ◌∙◌, subst, append_assoc, append-nil, arith}
 use mathlib.Core.List.{nil≢cons}
-use Rattle.std.proofs.lemmas.List.{take_more}
 use Rattle.std.proofs.lemmas.Bool.{eqb-true, eqb-false, eq-eqb, ne_eqb, both_ways, cond-false, cond-true, lt-leb, le-leb}
 use Rattle.std.proofs.lemmas.Bool.Decides.{nat_tests}
 use Rattle.dma.specs.declared.channel.Channel.{Channel}
@@ -9,12 +8,11 @@ use Rattle.dma.specs.Channels.{after as onward, unit_bytes, memory_address, step
 use Rattle.timer.specs.declared.counter.Counter.{Counter}
 use Rattle.timer.specs.declared.counter.Event.TheVariants.{Clock}
 use Rattle.timer.specs.Counting.{stepped as counter_stepped, written}
-use Rattle.timer.specs.Watchdog.{unanswered as how_many}
 use Rattle.timer.proofs.Watching.{Waits, gated_clocks, waits_law}
 use Rattle.journal.specs.declared.Kind.{Kind}
 use Rattle.journal.specs.declared.Kind.TheVariants.{CardToMemory, MemoryToCard, Verify, Store}
 use Rattle.journal.specs.declared.Line.{Line}
-use Rattle.journal.specs.Layout.{word, listed, unpacked}
+use Rattle.journal.specs.Layout.{word, listed}
 use Rattle.journal.proofs.Codec.{reads_back}
 use Rattle.board.specs.State.{channel_at}
 use Rattle.board.specs.Carry.{wide_mode}
@@ -23,8 +21,8 @@ use Rattle.runs.specs.declared.Call.{Call}
 use Rattle.runs.specs.declared.Call.TheVariants.{WritePort}
 use Rattle.runs.specs.declared.Answer.TheVariants.{Done}
 use Rattle.runs.specs.World.{World, after, answer, run}
-use Rattle.runs.specs.Law.{line_in, read_line, words, lines, since, Readable, Never, is_store, post, posted, units, is_given, is_taken, brought, arrivals, making, owed_by, owed, Posting, of_channel, touches, InSequence, Counts, rise, found, unanswered, restarts, lifts, by_dma, Halted, Stop, RunLaw}
-use Rattle.runs.proofs.Step.{Step, Served, idle, line, advanced, AllListed}
+use Rattle.runs.specs.Law.{line_in, read_line, words, lines, since, Readable, Never, is_store, post, posted, units, is_given, is_taken, brought, arrivals, making, owed, Posting, of_channel, touches, InSequence, Counts, rise, found, unanswered, restarts, lifts, by_dma, Halted, Stop, RunLaw}
+use Rattle.runs.proofs.Step.{Step, Served, idle, line, AllListed}
 
 -- Two lists in a row.
 

@@ -1,5 +1,5 @@
 -- The laws of one step, from which the law over whole runs is proved. A new call owes these and nothing else.
-use Rattle.std.proofs.Common.{◌≡◌, ℕ, ◌<◌, Bool, true, false, cond, eqb, List, [], ◌∷◌, ◌++◌, map}
+use Rattle.std.proofs.Common.{◌≡◌, ℕ, ◌<◌, true, false, cond, eqb, List, [], ◌∷◌, ◌++◌, map}
 use Rattle.dma.specs.declared.channel.Channel.{Channel}
 use Rattle.dma.specs.Channels.{memory_address, stepped, with_mask}
 use Rattle.timer.specs.declared.counter.Event.TheVariants.{Clock}

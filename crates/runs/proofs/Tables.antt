@@ -1,20 +1,20 @@
 -- The table of channels after a write to one of them.
-use Rattle.std.proofs.Common.{◌≡◌, ℕ, zero, suc, ◌+◌, ◌*◌, ◌/◌, ◌%◌, ◌<◌, Bool, true, false, cond, not, ◌&&◌, ◌||◌, eqb, ◌≢◌, List, [], ◌∷◌, map, length, get_or, set, Some, None, Ok, Err, Option, Result, sym, refl, ap, ◌∙◌, ⊎_elim, arith, length-set}
-use Rattle.std.proofs.lemmas.List.{get_or-set_same, get_or-set_other}
-use Rattle.std.proofs.lemmas.Bool.{eqb-true, eqb-false, or_parts, both_ways, cases_lt, cases_Bool, and_from}
+use Rattle.std.proofs.Common.{◌≡◌, ℕ, zero, suc, ◌<◌, Bool, true, false, cond, ◌&&◌, ◌||◌, eqb, ◌≢◌, List, [], ◌∷◌, length, set, Some, None, Ok, Err, Option, Result, sym, refl, ap, arith, length-set}
+use Rattle.std.proofs.lemmas.List.{get_or-set_other}
+use Rattle.std.proofs.lemmas.Bool.{eqb-false, or_parts, both_ways}
 use Rattle.std.proofs.lemmas.Bool.Decides.{nat_tests}
 use Rattle.fault.specs.declared.Refusal.{Refusal}
 use Rattle.fault.specs.declared.Refusal.TheVariants.{NotListed}
 use Rattle.dma.specs.declared.channel.Channel.{Channel}
 use Rattle.dma.specs.declared.command.Action.{Action}
 use Rattle.dma.specs.declared.command.Action.TheVariants.{Select, SetMask, ClearMask, MasterClear, Status, Register}
-use Rattle.dma.specs.declared.command.Direction.TheVariants.{Function, Write}
+use Rattle.dma.specs.declared.command.Direction.TheVariants.{Function}
 use Rattle.dma.specs.declared.command.Part.{Part}
 use Rattle.dma.specs.declared.command.Part.TheVariants.{IoLow, IoHigh, AddressLow, AddressMiddle, AddressHigh, CountLow, CountHigh, Mode, Level}
 use Rattle.dma.specs.declared.controller.Controller.{Controller}
 use Rattle.dma.specs.Channels.{with_mask}
 use Rattle.dma.specs.Commands.{command, channel_of, decided}
-use Rattle.dma.specs.Registers.{no_channel, nth_channel, with_part, takes_byte, next_pointer, WriteOutcome, function_by, part_written, data_by, masked_at, all_masked}
+use Rattle.dma.specs.Registers.{no_channel, nth_channel, with_part, takes_byte, next_pointer, WriteOutcome, function_by, part_written, data_by, all_masked}
 use Rattle.board.specs.Ports.{at_port}
 use Rattle.runs.specs.World.{done_or_refused}
 use Rattle.runs.specs.Law.{is_done}

@@ -1,5 +1,5 @@
 -- Small runs, computed: the premises of the law can be met.
-use Rattle.std.specs.Prelude.{◌≡◌, ℕ, Bool, true, false, cond, List, [], ◌∷◌, ◌++◌, map, replicate, Ok, ◌==◌}
+use Rattle.std.specs.Prelude.{◌≡◌, ℕ, Bool, true, false, cond, List, [], ◌∷◌, ◌++◌, replicate, Ok, ◌==◌}
 use Rattle.journal.specs.declared.Kind.TheVariants.{CardToMemory}
 use Rattle.journal.specs.declared.Line.{Line}
 use Rattle.memory.specs.Meaning.{Contents}
@@ -10,7 +10,7 @@ use Rattle.runs.specs.declared.Call.{Call}
 use Rattle.runs.specs.declared.Call.TheVariants.{WritePort, Tick, Grant}
 use Rattle.runs.specs.declared.Answer.TheVariants.{Done}
 use Rattle.runs.specs.World.{World, opening, after, answer, run}
-use Rattle.runs.specs.Law.{lines, Never, of_channel, touches, unanswered, restarts, lifts}
+use Rattle.runs.specs.Law.{lines, Never, of_channel, touches, unanswered, restarts}
 
 -- a memory all there, and an 8-bit giver on level 2 with three units, its line up
 abbrev pub ram : Contents

@@ -4,7 +4,6 @@ use Rattle.fault.specs.declared.Fault.{Fault}
 use Rattle.dma.specs.declared.channel.Channel.{Channel}
 use Rattle.dma.specs.Channels.{has, after as onward, unit_bytes}
 use Rattle.dma.specs.Commands.{command, channel_of}
-use Rattle.timer.specs.declared.timers.CountPort.{CountPort}
 use Rattle.timer.specs.declared.timers.CountPort.TheVariants.{System, Speaker, Watchdog}
 use Rattle.timer.specs.Counting.{written}
 use Rattle.timer.specs.Timing.{rises}

@@ -1,5 +1,5 @@
 -- All that the calls work on, and what one call answers and leaves by the rules.
-use Rattle.std.specs.Prelude.{ℕ, ◌%◌, Bool, true, false, List, [], ◌∷◌, Ok, Err, Result}
+use Rattle.std.specs.Prelude.{ℕ, ◌%◌, Bool, List, [], ◌∷◌, Ok, Err, Result}
 use Rattle.fault.specs.declared.Fault.{Fault}
 use Rattle.memory.specs.Meaning.{Contents}
 use Rattle.rack.specs.Meaning.{Levels}

@@ -1,14 +1,13 @@
-use Rattle.std.proofs.Common.{◌≡◌, ℕ, ◌+◌, ◌<◌, ◌≤◌, List, length, take, vec_items, vec_len, vec_capacity, sym, refl, ap, ◌∙◌, subst, arith, rules}
+use Rattle.std.proofs.Common.{◌≡◌, ℕ, ◌+◌, ◌≤◌, List, length, vec_items, sym, refl, ap, ◌∙◌, subst, arith}
 use Rattle.std.proofs.lemmas.List.{take_all}
-use Rattle.runs.specs.declared.Answer.{Answer}
 use Rattle.runs.specs.declared.Call.{Call}
 use Rattle.runs.specs.declared.Call.TheVariants.{ReadPort}
 use Rattle.runs.specs.World.{World, world, run}
 use Rattle.runs.proofs.Answering.{AnsweredUpTo, none_answered, one_answered, reached_more, all_answered, goes_on}
 use Rattle.runs.proofs.go_on.Goals as goal
 
-pub push-reserved-requires : goal.push-reserved-requires
-push-reserved-requires g c =
+pub push_reserved-requires : goal.push_reserved-requires
+push_reserved-requires g c =
     let n = c.loop-call.invariant.1.as_many in
     let m = c.loop-call.invariant.2 in
     let t = c.loop-call-test.true in
@@ -32,9 +31,9 @@ loop-call-preserved g c =
     let d : Call = ReadPort 0 in
     let here = c.loop-call.invariant.0 in (
       reached_more w _ _ cs i d c.loop-call-test.true here c.act-answer.ensures.left,
-      subst (AnsweredUpTo w cs (i + 1)) (sym c.push-reserved.ensures.items)
+      subst (AnsweredUpTo w cs (i + 1)) (sym c.push_reserved.ensures.items)
           (one_answered w _ cs i (vec_items c.loop-call.answers) c.act-answer.result.1 d c.loop-call-test.true here c.loop-call.invariant.1 c.act-answer.ensures.answered),
-      subst (λ (k : ℕ). length cs ≤ k) (sym c.push-reserved.ensures.capacity) c.loop-call.invariant.2,
+      subst (λ (k : ℕ). length cs ≤ k) (sym c.push_reserved.ensures.capacity) c.loop-call.invariant.2,
     )
 
 pub returns : goal.returns
