@@ -63,7 +63,7 @@ fn play<M: Memory, R: Rack>(
     for (place, (call, wanted)) in steps.iter().enumerate() {
         let (next, answer) = perform_one(bus, &mut board, memory, rack, journal, *call);
         bus = next;
-        check_said(rt, said(answer), *wanted).note(place)?;
+        assert_eq!(rt; said(answer), *wanted, "step {place}");
     }
     Ok(board.registers())
 }

@@ -42,8 +42,8 @@ fn every_port_both_ways(rt: HostRuntime) -> Result<(), Fail> {
             _ => 0,
         };
         let (reading, writing) = expected(port);
-        check_said(&rt, read(port), reading).note(port)?;
-        check_said(&rt, write(0, port, byte), writing).note(port)?;
+        assert_eq!(rt; read(port), reading, "reading port {port}");
+        assert_eq!(rt; write(0, port, byte), writing, "writing port {port}");
     }
     Ok(())
 }
