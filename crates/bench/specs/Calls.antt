@@ -1,5 +1,5 @@
 -- What each entry of a script answers and leaves; an entry that is no call does nothing.
-use Rattle.std.specs.Prelude.{◌≡◌, ℕ, zero, suc, ◌-◌, Bool, true, false, List, Some, None, Ok, Err, Option, Result, slice_index}
+use Rattle.std.specs.Prelude.{◌≡◌, ℕ, zero, suc, ◌-◌, Bool, true, false, Some, None, Ok, Err, Option, Result, slice_index}
 use Rattle.fault.specs.declared.Fault.{Fault}
 use Rattle.journal.specs.Lookup.{Found}
 use Rattle.runs.specs.declared.Call.{Call}

@@ -1,5 +1,5 @@
 -- How the entries that were performed are counted.
-use Rattle.std.specs.Prelude.{ℕ, ◌+◌, ◌-◌, ◌^◌, min, cond, List, replicate, Some, None, Option, nat_lt, slice_index, slice_set}
+use Rattle.std.specs.Prelude.{ℕ, ◌+◌, ◌-◌, ◌^◌, min, cond, replicate, Some, None, Option, nat_lt, slice_index, slice_set}
 use Rattle.script.specs.declared.Entry.{Entry}
 use Rattle.script.specs.declared.Entry.TheVariants as entry
 use Rattle.bench.specs.declared.counts.Counts.{Counts}

@@ -27,7 +27,7 @@ fn start<M: Memory + Drop, R: Rack + Drop>(
     mut rack: R,
     mut journal: Vec<u64>,
 ) -> Result<(Machine<M, R>, Bus), AllocError>
-    ensures { IfOk result (λ made. world_of M.Memory.meaning R.Rack.meaning IfOk.0 ≡ opening (M.Memory.meaning memory) (R.Rack.meaning rack) journal.items) }
+    ensures { IfOk result (λ made. world_of M.Memory.meaning R.Rack.meaning made.0 ≡ opening (M.Memory.meaning memory) (R.Rack.meaning rack) journal.items) }
 {
     let performed = runs::perform(heap, &mut memory, &mut rack, journal.as_mut_slice(), &[])?;
     let Performed {
@@ -67,7 +67,7 @@ impl Rig {
 
     // The machine before its first call, and its bus.
     pub fn lay_out(&self, heap: Global) -> Result<(Machine<YardMemory, YardRack>, Bus), AllocError>
-        ensures { IfOk result (λ made. yard_world IfOk.0 ≡ laid_out self.now) }
+        ensures { IfOk result (λ made. yard_world made.0 ≡ laid_out self.now) }
     {
         let memory = self.make_memory(heap)?;
         let rack = self.make_rack(heap)?;
