@@ -13,6 +13,7 @@ pub struct Protected<M: Memory> {
 }
 
 impl<M: Memory> Protected<M> {
+    #[tactic(auto, using(crate::proofs::Shielding::shields))]
     pub fn new(inner: M, lo: u32, hi: u32) -> Protected<M>
         ensures meaning { protected_meaning M.Memory.meaning result ≡ guarded (M.Memory.meaning inner) lo hi }
         ensures law { Shields (M.Memory.meaning inner) lo hi (protected_meaning M.Memory.meaning result) }
