@@ -14,6 +14,8 @@ NAME = re.compile(r"[A-Za-z_][\w']*(?:-[\w']+)+")
 WORD = re.compile(r"[A-Za-z_«][\w'»]*(?:-[\w'»]+)*")
 LIBRARY = re.compile(r"^\s*use (?:Rattle\.std|native|borrow|mathlib|denote|logic|Prim|lib)\b")
 GENERATED = re.compile(r"^\s*use .*\.(?:Goals|Given)(?:\.\{| as )")
+# what the kit's script left with an underscore in a type's name
+LEFT = {"Goes_on": "GoesOn"}
 PROVED = ("Answers.antt", "Invariants.antt", "Choices.antt")
 
 
@@ -84,7 +86,7 @@ def main():
             with open(path, encoding="utf-8") as f:
                 for line in f:
                     library |= kept(code(line, "--"))
-    table = {name: respelled(name) for name in own - library}
+    table = {name: respelled(name) for name in own - library} | LEFT
     clash = False
     texts = {}
     for path in paths:

@@ -7,7 +7,7 @@ use Rattle.runs.specs.declared.Call.TheVariants.{Tick}
 use Rattle.runs.specs.declared.Answer.{Answer}
 use Rattle.runs.specs.declared.Answer.TheVariants.{Done}
 use Rattle.runs.specs.World.{World, opening, after, answer, run}
-use Rattle.runs.specs.Law.{Answered, Goes_on, RunLaw}
+use Rattle.runs.specs.Law.{Answered, GoesOn, RunLaw}
 use Rattle.runs.proofs.Runs.{run-++, run_push}
 use Rattle.runs.proofs.Laws.{law_of_runs}
 
@@ -39,7 +39,7 @@ reached_more w v v' calls n d h e f = f ∙ ap (λ (z : World). after z (get_or 
 pub all_answered : (w : World) (calls : List Call) (answers : List Answer) → AnsweredUpTo w calls (length calls) answers → Answered w calls answers
 all_answered w calls answers s = record { as_many = s.as_many; each = s.each }
 
-pub goes_on : (w : World) (calls : List Call) (v : World) → v ≡ run w calls → Goes_on w calls v
+pub goes_on : (w : World) (calls : List Call) (v : World) → v ≡ run w calls → GoesOn w calls v
 goes_on w calls v e m r j past h q =
     subst (RunLaw (opening m r j) (past ++ calls)) (run-++ (opening m r j) past calls ∙ ap (λ (z : World). run z calls) (sym q) ∙ sym e) (law_of_runs m r j (past ++ calls) h)
 

@@ -328,8 +328,8 @@ pub record Lawful (m : Contents) (r : Levels) : Type 0 where
   pub units : (l : ℕ) → all_fit (r.at l).wide (r.at l).waiting ≡ true
 
 -- whatever list has led to w from an unused board, all three hold of that list followed by the calls
-abbrev pub Goes_on : World → List Call → World → Type 0
-Goes_on w calls v =
+abbrev pub GoesOn : World → List Call → World → Type 0
+GoesOn w calls v =
     (m : Contents) (r : Levels) (j : List ℕ) (past : List Call) → Lawful m r → w ≡ run (opening m r j) past → RunLaw (opening m r j) (past ++ calls) v
 
 -- each call's answer is the one that the rules give on the result so far

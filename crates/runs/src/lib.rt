@@ -5,7 +5,7 @@ ghost use Rattle.memory.specs.Meaning.{Contents};
 ghost use Rattle.rack.specs.Meaning.{Levels};
 ghost use Rattle.runs.specs.World.{World, world, opening, after, answer, done_or_refused, byte_or_refused, carried_or_refused, run};
 ghost use Rattle.runs.specs.Examples.{CountMet, StopMet, start, programmed, three_grants};
-ghost use Rattle.runs.specs.Law.{Answered, Goes_on, RunLaw};
+ghost use Rattle.runs.specs.Law.{Answered, GoesOn, RunLaw};
 
 use board::{Board, Bus, cycle, power_on};
 use fault::Fault;
@@ -137,7 +137,7 @@ pub fn perform_one<M: Memory, R: Rack>(
 ) -> (Bus, Answer)
     ensures answered { result.1 ≡ answer (world board.old (M.Memory.meaning memory.old) (R.Rack.meaning rack.old) journal.old) call }
     ensures left { world board.new (M.Memory.meaning memory.new) (R.Rack.meaning rack.new) journal.new ≡ after (world board.old (M.Memory.meaning memory.old) (R.Rack.meaning rack.old) journal.old) call }
-    ensures law { Goes_on (world board.old (M.Memory.meaning memory.old) (R.Rack.meaning rack.old) journal.old) (call ∷ []) (world board.new (M.Memory.meaning memory.new) (R.Rack.meaning rack.new) journal.new) }
+    ensures law { GoesOn (world board.old (M.Memory.meaning memory.old) (R.Rack.meaning rack.old) journal.old) (call ∷ []) (world board.new (M.Memory.meaning memory.new) (R.Rack.meaning rack.new) journal.new) }
 {
     act(bus, board, memory, rack, journal, call)
 }
@@ -156,7 +156,7 @@ pub fn go_on<M: Memory, R: Rack>(
 ) -> (Bus, Result<Vec<Answer>, AllocError>)
     ensures reached { OnOk result.1 (world board.new (M.Memory.meaning memory.new) (R.Rack.meaning rack.new) journal.new ≡ run (world board.old (M.Memory.meaning memory.old) (R.Rack.meaning rack.old) journal.old) calls.now) }
     ensures answered { IfOk result.1 (λ v. Answered (world board.old (M.Memory.meaning memory.old) (R.Rack.meaning rack.old) journal.old) calls.now v.items) }
-    ensures law { OnOk result.1 (Goes_on (world board.old (M.Memory.meaning memory.old) (R.Rack.meaning rack.old) journal.old) calls.now (world board.new (M.Memory.meaning memory.new) (R.Rack.meaning rack.new) journal.new)) }
+    ensures law { OnOk result.1 (GoesOn (world board.old (M.Memory.meaning memory.old) (R.Rack.meaning rack.old) journal.old) calls.now (world board.new (M.Memory.meaning memory.new) (R.Rack.meaning rack.new) journal.new)) }
     ensures unaltered { OnErr result.1 (world board.new (M.Memory.meaning memory.new) (R.Rack.meaning rack.new) journal.new ≡ world board.old (M.Memory.meaning memory.old) (R.Rack.meaning rack.old) journal.old) }
 {
     let mut answers = match Vec::with_capacity(heap, calls.len()) {

@@ -2,7 +2,7 @@ use Rattle.std.proofs.Common.{◌≡◌, List, [], vec_items, ap, ◌∙◌, sub
 use Rattle.board.specs.declared.state.Board.{Board}
 use Rattle.runs.specs.declared.Call.{Call}
 use Rattle.runs.specs.World.{World, world, opening, run}
-use Rattle.runs.specs.Law.{Answered, Goes_on}
+use Rattle.runs.specs.Law.{Answered, GoesOn}
 use Rattle.runs.proofs.Answering.{made_at}
 use Rattle.runs.proofs.perform.Goals as goal
 
@@ -16,7 +16,7 @@ returns-in-Ok g c =
     let e : w ≡ o = ap (λ (b : Board). world b (g.M.Memory.meaning c.args.memory.now) (g.R.Rack.meaning c.args.rack.now) c.args.journal.now) c.power_on.ensures.board in
     let r : v ≡ run w cs = made_at (λ _. v ≡ run w cs) c.go_on-result.result.1 c.in-Ok.answers c.in-Ok.is c.go_on-result.ensures.reached in
     let a : Answered w cs (vec_items c.in-Ok.answers) = made_at (λ x. Answered w cs (vec_items x)) c.go_on-result.result.1 c.in-Ok.answers c.in-Ok.is c.go_on-result.ensures.answered in
-    let l : Goes_on w cs v = made_at (λ _. Goes_on w cs v) c.go_on-result.result.1 c.in-Ok.answers c.in-Ok.is c.go_on-result.ensures.law in
+    let l : GoesOn w cs v = made_at (λ _. GoesOn w cs v) c.go_on-result.result.1 c.in-Ok.answers c.in-Ok.is c.go_on-result.ensures.law in
     record {
       reached = r ∙ ap (λ (z : World). run z cs) e;
       answered = subst (λ (z : World). Answered z cs (vec_items c.in-Ok.answers)) e a;

@@ -68,7 +68,7 @@ fn channels_0_and_4_serve_levels_0_and_14(rt: HostRuntime) -> Result<(), Fail> {
 
 // Of 600 units the first 512 are taken; after a give there is a place again.
 #[test]
-fn arrival_513_waits_for_a_give(rt: HostRuntime) -> Result<(), Fail> {
+fn a_full_card_takes_again_after_a_give(rt: HostRuntime) -> Result<(), Fail> {
     let mut scale = WeighingCard::new(rt.alloc(), 5)?;
     for unit in 0..600u16 {
         let wanted = if unit < 512 { Ok(0) } else { Err((9, 5, 0)) };
