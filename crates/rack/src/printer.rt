@@ -1,7 +1,7 @@
 ghost use Rattle.std.specs.Prelude.{◌≡◌, [], IfOk};
 ghost use Rattle.rack.specs.Makes.{one_card, printing, printing_line};
 ghost use Rattle.rack.specs.Racks.{printing_meaning};
-ghost use Rattle.std.proofs.Common.{rules, arith};
+ghost use Rattle.std.proofs.Common.{rules};
 
 use crate::{Kind, LevelSummary, Rack, arrival_not_taken, cannot_serve, stands_at};
 use fault::Fault;
@@ -25,9 +25,9 @@ impl TicketPrinter {
 impl Rack for TicketPrinter {
     ghost meaning = { printing_meaning };
 
-    ghost up_able = { first_of (Prim.search rules, Prim.grind (arith, Self.row.coded.inj)) };
+    ghost up_able = { Prim.search rules };
 
-    ghost waiting_fit = { first_of (Prim.search rules, Prim.grind (arith, Self.row.coded.inj)) };
+    ghost waiting_fit = { Prim.search rules };
 
     fn summary(&self, level: u8) -> LevelSummary {
         if !stands_at(self.level, level) {

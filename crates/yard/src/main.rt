@@ -14,6 +14,7 @@ use rack::{Kind, LevelSummary, Rack};
 use script::{Entry, read_entry};
 use std::alloc::{AllocError, Global};
 use std::io::{Read, Write};
+use std::process::ExitCode;
 use std::{env, fs, io};
 use timer::Counter;
 
@@ -535,12 +536,20 @@ fn run(rt: &HostRuntime, text: &str) -> io::Result<()> {
     )
 }
 
-fn main(rt: HostRuntime) -> io::Result<()> {
-    match read_text(&rt) {
-        Ok(text) => run(&rt, text.as_str()),
+// Reads the script and plays it.
+fn play_script(rt: &HostRuntime) -> io::Result<()> {
+    match read_text(rt) {
+        Ok(text) => run(rt, text.as_str()),
         Err(error) => {
             eprintln!(rt; "the script cannot be read: {error}")?;
             Err(error)
         }
+    }
+}
+
+fn main(rt: HostRuntime) -> ExitCode {
+    match play_script(&rt) {
+        Ok(()) => ExitCode::SUCCESS,
+        Err(_) => ExitCode::FAILURE,
     }
 }
