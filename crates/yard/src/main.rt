@@ -25,24 +25,24 @@ const DIGITS: [u8; 16] = [
 // From this length on a page is written out.
 const LONG: usize = 32768;
 
-// Text on its way out. Once memory has run short the page is spoilt, and writing it out fails.
+// Text on its way out. Where memory ran short, writing it out fails with that error.
 #[derive(Drop)]
 struct Page {
     bytes: Vec<u8>,
-    spoilt: bool,
+    outcome: Result<(), AllocError>,
 }
 
 impl Page {
     fn new(heap: Global) -> Page {
         Page {
             bytes: Vec::new(heap),
-            spoilt: false,
+            outcome: Ok(()),
         }
     }
 
     fn bytes(&mut self, bytes: &[u8]) {
-        if self.bytes.extend_from_slice(bytes).is_err() {
-            self.spoilt = true;
+        if self.outcome.is_ok() {
+            self.outcome = self.bytes.extend_from_slice(bytes);
         }
     }
 
@@ -98,9 +98,7 @@ impl Page {
 
     // Writes the page out and empties it.
     fn write_out<W: Write>(&mut self, out: &mut W) -> io::Result<()> {
-        if self.spoilt {
-            return Err(io::Error::from(io::ErrorKind::OutOfMemory));
-        }
+        self.outcome?;
         out.write_all(self.bytes.as_slice())?;
         self.bytes.clear();
         Ok(())
@@ -366,10 +364,10 @@ fn put_level_account<R: Rack>(page: &mut Page, words: &[u64], rack: &R, level: u
     }
 }
 
-fn put_totals(page: &mut Page, words: &[u64], length: usize) {
+fn put_totals(page: &mut Page, lines: u32, words: &[u64], length: usize) {
     let totals = accounts::tally(words);
     page.text("lines ");
-    page.decimal(words.len() as u64);
+    page.decimal(u64::from(lines));
     page.text(" of ");
     page.decimal(length as u64);
     page.text(": card to memory ");
@@ -391,7 +389,7 @@ fn put_accounts<M: Memory, R: Rack>(page: &mut Page, counts: &Counts, machine: &
     page.decimal(counts.refused);
     page.text("\n");
     let words = machine.words();
-    put_totals(page, words, machine.journal.len());
+    put_totals(page, machine.board.lines(), words, machine.journal.len());
     for level in 0u8..15 {
         put_level_account(
             page,
