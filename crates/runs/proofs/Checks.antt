@@ -13,29 +13,9 @@ use Rattle.board.specs.declared.carry.Motion.TheVariants.{ToMemory, ToCard, Veri
 use Rattle.board.specs.declared.carry.Transfer.{Transfer}
 use Rattle.board.specs.declared.state.Board.{Board}
 use Rattle.board.specs.State.{channel_at}
-use Rattle.board.specs.Grant.{least, server, contends, winner_of, serving}
+use Rattle.board.specs.Grant.{server, contends, winner_of, serving}
 use Rattle.board.specs.Carry.{wide_mode, motion_of, same, asked, suits_card, serves, memory_answer, transfer, by_memory, checked}
-
--- the least number that passes passes
-least_passes : (p : ℕ → Bool) (n : ℕ) → least p n < n → p (least p n) ≡ true
-unfolding least
-least_passes p zero h = absurd (omega arith)
-least_passes p (suc n) h = go (ltb (least p n) n) (least_passes p n) (ltb-true (least p n) n) (p n) refl h
-  where
-    go : (t : Bool) → (least p n < n → p (least p n) ≡ true) → (t ≡ true → least p n < n) → (q : Bool) → p n ≡ q → cond t (least p n) (cond q n (suc n)) < suc n → p (cond t (least p n) (cond q n (suc n))) ≡ true
-    go true again lt q e h = again (lt refl)
-    go false again lt true e h = e
-    go false again lt false e h = absurd (omega arith)
-
-least_most : (p : ℕ → Bool) (n : ℕ) → least p n ≤ n
-unfolding least
-least_most p zero = omega arith
-least_most p (suc n) = go (ltb (least p n) n) (p n) (least_most p n)
-  where
-    go : (t q : Bool) → least p n ≤ n → cond t (least p n) (cond q n (suc n)) ≤ suc n
-    go true q h = omega arith
-    go false true h = omega arith
-    go false false h = omega arith
+use Rattle.board.proofs.Least.{least_passes, least_most}
 
 -- a winner that is not the processor has a channel to serve it
 pub winner_low : (b : Board) (r : Levels) → eqb (winner_of b r) 15 ≡ false → winner_of b r < 15

@@ -45,9 +45,8 @@ fn said(answer: Answer) -> Said {
     }
 }
 
-fn check_said(rt: &impl Abort, answer: Said, wanted: Said) -> Result<(), Fail> {
+fn check_said(rt: &impl Abort, answer: Said, wanted: Said) {
     assert_eq!(rt; answer, wanted);
-    Ok(())
 }
 
 // Performs the steps in turn, up to the first that is answered otherwise; the registers after them.
@@ -59,13 +58,13 @@ fn play<M: Memory, R: Rack>(
     rack: &mut R,
     journal: &mut [u64],
     steps: &[Step],
-) -> Result<Registers, Fail> {
+) -> Registers {
     for (place, (call, wanted)) in steps.iter().enumerate() {
         let (next, answer) = perform_one(bus, &mut board, memory, rack, journal, *call);
         bus = next;
         assert_eq!(rt; said(answer), *wanted, "step {place}");
     }
-    Ok(board.registers())
+    board.registers()
 }
 
 // A channel that is set up and opened at first: its number, address, count and mode.
@@ -126,7 +125,7 @@ fn run(rt: &impl Abort, heap: Global, rig: &Rig, steps: &[Step]) -> Result<Regis
     for opened in rig.opened {
         open_channel(&bus, &mut board, *opened);
     }
-    play(rt, bus, board, &mut memory, &mut rack, &mut journal, steps)
+    Ok(play(rt, bus, board, &mut memory, &mut rack, &mut journal, steps))
 }
 
 // Plays the steps, which put so many lines down.

@@ -72,10 +72,10 @@ fn a_full_card_takes_again_after_a_give(rt: HostRuntime) -> Result<(), Fail> {
     let mut scale = WeighingCard::new(rt.alloc(), 5)?;
     for unit in 0..600u16 {
         let wanted = if unit < 512 { Ok(0) } else { Err((9, 5, 0)) };
-        check_said(&rt, done(scale.arrive(5, unit)), wanted)?;
+        check_said(&rt, done(scale.arrive(5, unit)), wanted);
     }
     let given = scale.give(5).unwrap_or(1);
-    check_said(&rt, done(scale.arrive(5, 600)), Ok(0))?;
+    check_said(&rt, done(scale.arrive(5, 600)), Ok(0));
     let last = scale.waiting_unit(5, 511).unwrap_or(0);
     assert!(rt; given == 0 && last == 600 && scale.summary(5).room == 0);
     Ok(())
@@ -85,10 +85,10 @@ fn a_full_card_takes_again_after_a_give(rt: HostRuntime) -> Result<(), Fail> {
 #[test]
 fn printer_takes_2048(rt: HostRuntime) -> Result<(), Fail> {
     let mut printer = TicketPrinter::new(rt.alloc(), 3)?;
-    check_said(&rt, done(printer.take(3, 256)), Err((8, 3, 0)))?;
+    check_said(&rt, done(printer.take(3, 256)), Err((8, 3, 0)));
     for unit in 0..2100u16 {
         let wanted = if unit < 2048 { Ok(0) } else { Err((8, 3, 0)) };
-        check_said(&rt, done(printer.take(3, unit % 256)), wanted)?;
+        check_said(&rt, done(printer.take(3, unit % 256)), wanted);
     }
     let full = printer.summary(3);
     let last = printer.taken_unit(3, 2047).unwrap_or(0);

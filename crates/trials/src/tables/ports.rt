@@ -1,7 +1,6 @@
 use super::{Said, check_said, done, numbers};
 use board::power_on;
 use std::process::Abort;
-use std::test::Fail;
 
 // An unused board reads a port.
 fn read(port: u16) -> Said {
@@ -35,7 +34,7 @@ fn expected(port: u16) -> (Said, Said) {
 }
 
 #[test]
-fn every_port_both_ways(rt: HostRuntime) -> Result<(), Fail> {
+fn every_port_both_ways(rt: HostRuntime) {
     for port in 0..=0xFFFFu16 {
         let byte = match port {
             0x43 | 0x47 => 0x10,
@@ -45,7 +44,6 @@ fn every_port_both_ways(rt: HostRuntime) -> Result<(), Fail> {
         assert_eq!(rt; read(port), reading, "reading port {port}");
         assert_eq!(rt; write(0, port, byte), writing, "writing port {port}");
     }
-    Ok(())
 }
 
 // Whether a port takes a byte after a function byte.
@@ -63,22 +61,22 @@ fn lists(function: u8, port: u16, byte: u8) -> bool {
 }
 
 // The number of bytes that a port takes; each other byte is refused with 2.
-fn count_listed(rt: &impl Abort, function: u8, port: u16) -> Result<u32, Fail> {
+fn count_listed(rt: &impl Abort, function: u8, port: u16) -> u32 {
     let mut taken = 0u32;
     for byte in 0..=0xFFu8 {
         let answer = write(function, port, byte);
         if lists(function, port, byte) {
             taken = taken.saturating_add(1);
-            check_said(rt, answer, Ok(0))?;
+            check_said(rt, answer, Ok(0));
         } else {
-            check_said(rt, answer, Err((2, u32::from(port), 0)))?;
+            check_said(rt, answer, Err((2, u32::from(port), 0)));
         }
     }
-    Ok(taken)
+    taken
 }
 
 #[test]
-fn only_listed_bytes_are_taken(rt: HostRuntime) -> Result<(), Fail> {
+fn only_listed_bytes_are_taken(rt: HostRuntime) {
     for (function, port, number) in [
         (0, 0x18, 82),
         (0, 0x43, 18),
@@ -86,7 +84,6 @@ fn only_listed_bytes_are_taken(rt: HostRuntime) -> Result<(), Fail> {
         (0x73, 0x1A, 8),
         (0x84, 0x1A, 15),
     ] {
-        assert!(rt; count_listed(&rt, function, port)? == number);
+        assert!(rt; count_listed(&rt, function, port) == number);
     }
-    Ok(())
 }
