@@ -1,10 +1,14 @@
 #![tactic(auto)]
 
-ghost use Rattle.std.specs.Prelude.{◌≡◌};
+ghost use Rattle.std.specs.Prelude.{◌≡◌, Some};
 ghost use Rattle.fault.specs.Numbers.{number, own};
+ghost use Rattle.fault.specs.Text.{fault_text};
+
+use std::error::Error;
+use std::fmt;
 
 // Why a call is refused.
-#[derive(Clone, Copy)]
+#[derive(Clone, Copy, Debug, PartialEq, Eq)]
 pub enum Refusal {
     // no such port that way
     NoSuchPort,
@@ -28,11 +32,12 @@ pub enum Refusal {
     NotALine,
 }
 
-impl Refusal {
-    pub fn number(self) -> u8
-        ensures { result ≡ number self }
-    {
-        match self {
+// The number by which a refusal is told.
+impl From<Refusal> for u8 {
+    ghost from_gives = { λ refusal n. n ≡ number refusal };
+
+    fn from(refusal: Refusal) -> u8 {
+        match refusal {
             Refusal::NoSuchPort => 1,
             Refusal::NotListed => 2,
             Refusal::WrongWay => 3,
@@ -50,7 +55,7 @@ impl Refusal {
 }
 
 // A refusal, where it was, and how deep: 0 for the board, 1 for its memory, one more for each memory within.
-#[derive(Clone, Copy)]
+#[derive(Clone, Copy, Debug, PartialEq, Eq)]
 pub struct Fault {
     pub refusal: Refusal,
     pub place: u32,
@@ -69,3 +74,18 @@ impl Fault {
         }
     }
 }
+
+impl fmt::Display for Fault {
+    ghost output = { λ fault. Some (fault_text fault) };
+
+    fn fmt<W: fmt::Write>(&self, f: &mut fmt::Formatter<W>) -> fmt::Result {
+        let number = u8::from(self.refusal);
+        write!(
+            f,
+            "refused {number} place {:08X} layer {}",
+            self.place, self.layer
+        )
+    }
+}
+
+impl Error for Fault {}

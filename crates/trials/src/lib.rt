@@ -13,7 +13,7 @@ mod tests {
     fn number(answer: Result<(), Fault>) -> u8 {
         match answer {
             Ok(()) => 0,
-            Err(fault) => fault.refusal.number(),
+            Err(fault) => u8::from(fault.refusal),
         }
     }
 
@@ -53,7 +53,7 @@ mod tests {
         for port in [0x18u16, 0x43, 0x47, 0x93] {
             let refused = match bus.read_port(&mut board, port) {
                 Ok(_) => 0,
-                Err(fault) => fault.refusal.number(),
+                Err(fault) => u8::from(fault.refusal),
             };
             assert_eq!(rt; refused, 1);
         }

@@ -25,7 +25,7 @@ type Said = Result<u8, Refused>;
 type Step = (Call, Said);
 
 fn numbers(fault: Fault) -> Refused {
-    (fault.refusal.number(), fault.place, fault.layer)
+    (u8::from(fault.refusal), fault.place, fault.layer)
 }
 
 // What an operation that gives nothing says.

@@ -134,7 +134,7 @@ fn put_bit(page: &mut Page, set: bool) {
 
 fn put_fault(page: &mut Page, fault: Fault) {
     page.text("refused ");
-    page.decimal(u64::from(fault.refusal.number()));
+    page.decimal(u64::from(u8::from(fault.refusal)));
     page.text(" place ");
     page.hex(u64::from(fault.place), 8);
     page.text(" layer ");
