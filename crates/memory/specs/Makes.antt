@@ -1,7 +1,5 @@
 -- What each make of memory means.
-use Rattle.std.specs.Prelude.{◌≡◌, ℕ, ◌%◌, ◌<◌, ◌≤◌, Bool, cond, ◌&&◌, ◌⊎◌, List, length, Ok, Err, vec_items, Result, nat_le, nat_lt, slice_index}
-use Rattle.memory.specs.declared.Beneath.{Beneath}
-use Rattle.memory.specs.declared.MemoryFault.{MemoryFault}
+use Rattle.std.specs.Prelude.{◌≡◌, ℕ, ◌%◌, ◌<◌, ◌≤◌, Bool, cond, ◌&&◌, ◌⊎◌, List, length, Ok, Err, vec_items, nat_le, nat_lt, slice_index}
 use Rattle.memory.specs.declared.Reason.TheVariants.{Absent, Protected}
 use Rattle.memory.specs.declared.flat.FlatMemory.{FlatMemory}
 use Rattle.memory.specs.declared.protected.Protected.{Protected as ProtectedMemory}
@@ -24,11 +22,6 @@ abbrev pub rise : Answer → Answer
 rise (Ok x) = Ok x
 rise (Err f) = Err (risen f)
 
--- an answer with its fault marked as one from beneath
-abbrev pub from_beneath : {X : Type 0} → Result X MemoryFault → Result X Beneath
-from_beneath (Ok x) = Ok x
-from_beneath (Err f) = Err (record { 0 = f })
-
 -- whether the address a is in the range from lo up to but not hi
 abbrev pub within : ℕ → ℕ → ℕ → Bool
 within lo hi a = nat_le lo a && nat_lt a hi
@@ -43,7 +36,7 @@ guarded m lo hi = record { byte = m.byte; reads = λ a. rise (m.reads a); writes
 
 -- what a protected memory means, from the meaning of the one beneath
 abbrev pub protected_meaning : {M : Type 0} → (M → Contents) → ProtectedMemory M → Contents
-protected_meaning meaning p = guarded (meaning p.inner) p.lo p.hi
+protected_meaning meaning p = guarded (meaning p.inner) p.range.start p.range.end
 
 -- outside its range a protected memory answers as the one beneath, whose faults rise; inside it no writing is allowed
 pub record Shields (m : Contents) (lo hi : ℕ) (p : Contents) : Type 0 where

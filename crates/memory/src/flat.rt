@@ -1,5 +1,5 @@
 ghost use Rattle.std.specs.Prelude.{◌≡◌};
-ghost use Rattle.memory.specs.Makes.{flat, flat_meaning, present};
+ghost use Rattle.memory.specs.Makes.{flat, flat_meaning};
 ghost use Rattle.std.proofs.Common.{rules};
 
 use crate::{Memory, MemoryFault, Reason};
@@ -16,16 +16,6 @@ impl FlatMemory {
     {
         FlatMemory { bytes }
     }
-
-    fn present(&self, at: u32) -> Result<(), MemoryFault>
-        ensures { result ≡ present self.now.bytes.items at }
-    {
-        if (at as usize) < self.bytes.len() {
-            Ok(())
-        } else {
-            Err(MemoryFault::own(Reason::Absent, at))
-        }
-    }
 }
 
 impl Memory for FlatMemory {
@@ -33,22 +23,29 @@ impl Memory for FlatMemory {
 
     ghost bytes = { Prim.search rules };
 
+    // What is present may be read and written.
     fn may_read(&self, at: u32) -> Result<(), MemoryFault> {
-        self.present(at)
+        self.read(at)?;
+        Ok(())
     }
 
     fn may_write(&self, at: u32) -> Result<(), MemoryFault> {
-        self.present(at)
+        self.may_read(at)
     }
 
     fn read(&self, at: u32) -> Result<u8, MemoryFault> {
-        self.present(at)?;
-        Ok(self.bytes[at as usize])
+        self.bytes
+            .get(at as usize)
+            .copied()
+            .ok_or(MemoryFault::own(Reason::Absent, at))
     }
 
     fn write(&mut self, at: u32, byte: u8) -> Result<(), MemoryFault> {
-        self.present(at)?;
-        self.bytes[at as usize] = byte;
+        let place = self
+            .bytes
+            .get_mut(at as usize)
+            .ok_or(MemoryFault::own(Reason::Absent, at))?;
+        *place = byte;
         Ok(())
     }
 }

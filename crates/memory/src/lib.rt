@@ -12,17 +12,17 @@ pub use flat::FlatMemory;
 pub use protected::Protected;
 
 // Why a memory refuses.
-#[derive(Clone, Copy)]
+#[derive(Clone, Copy, Debug, PartialEq, Eq)]
 pub enum Reason {
     Absent,
     Protected,
 }
 
-impl Reason {
-    pub fn refusal(self) -> Refusal
-        ensures { result ≡ refusal_of self }
-    {
-        match self {
+impl From<Reason> for Refusal {
+    ghost from_gives = { λ reason refusal. refusal ≡ refusal_of reason };
+
+    fn from(reason: Reason) -> Refusal {
+        match reason {
             Reason::Absent => Refusal::MemoryAbsent,
             Reason::Protected => Refusal::MemoryProtected,
         }
@@ -31,7 +31,8 @@ impl Reason {
 
 // A memory's refusal: the address that the memory was asked about, and how deep that memory is.
 // The memory that is asked is layer 1, each beneath it one more, 255 at most.
-#[derive(Clone, Copy)]
+// kept: a Fault<Reason> of the crate fault could have no From<Beneath> and no From into Fault here, both types being foreign
+#[derive(Clone, Copy, Debug, PartialEq, Eq)]
 pub struct MemoryFault {
     pub reason: Reason,
     pub place: u32,
@@ -57,8 +58,7 @@ pub struct Beneath(pub MemoryFault);
 impl From<Beneath> for MemoryFault {
     ghost from_gives = { λ b f. f ≡ risen b.0 };
 
-    fn from(beneath: Beneath) -> MemoryFault {
-        let Beneath(fault) = beneath;
+    fn from(Beneath(fault): Beneath) -> MemoryFault {
         MemoryFault {
             reason: fault.reason,
             place: fault.place,
@@ -72,7 +72,7 @@ impl From<MemoryFault> for Fault {
 
     fn from(fault: MemoryFault) -> Fault {
         Fault {
-            refusal: fault.reason.refusal(),
+            refusal: fault.reason.into(),
             place: fault.place,
             layer: fault.layer,
         }
