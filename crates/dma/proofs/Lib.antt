@@ -1,1 +1,1 @@
-mod Readback
+pub mod Readback

@@ -2,7 +2,7 @@ ghost use Rattle.std.specs.Prelude.{◌≡◌, ◌+◌, ◌%◌};
 ghost use Rattle.dma.specs.Channels.{has, fresh, after, memory_address, stepped, with_mask};
 
 // The registers of one channel. The address register has 24 bits: what a u32 holds above them is not looked at.
-#[derive(Clone, Copy)]
+#[derive(Clone, Copy, Debug, PartialEq, Eq)]
 pub struct Channel {
     pub address: u32,
     pub count: u16,
@@ -47,25 +47,32 @@ impl Channel {
         address_bits(self.address)
     }
 
+    // Whether that bit of the mode is set.
+    fn has_mode(&self, bit: u8) -> bool
+        ensures { result ≡ has self.now.mode bit }
+    {
+        self.mode & bit != 0
+    }
+
     // Mode bit 6: units of 16 bits.
     pub fn is_wide(&self) -> bool
         ensures { result ≡ has self.now.mode 64 }
     {
-        self.mode & 0x40 != 0
+        self.has_mode(0x40)
     }
 
     // Mode bit 3: writes memory from a giver.
     pub fn writes_memory(&self) -> bool
         ensures { result ≡ has self.now.mode 8 }
     {
-        self.mode & 8 != 0
+        self.has_mode(8)
     }
 
     // Mode bit 2: moves units, where a clear bit verifies.
     pub fn transfers(&self) -> bool
         ensures { result ≡ has self.now.mode 4 }
     {
-        self.mode & 4 != 0
+        self.has_mode(4)
     }
 
     // One unit further: the address rises by the unit's bytes, the count falls by one.

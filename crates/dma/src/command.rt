@@ -1,5 +1,5 @@
 ghost use Rattle.std.specs.Prelude.{◌≡◌};
-ghost use Rattle.dma.specs.Commands.{decided};
+ghost use Rattle.dma.specs.Commands.{channel_of, decided};
 
 // Which way a byte goes: a function byte to port 0018, or a register's byte to or from port 001A.
 #[derive(Clone, Copy)]
@@ -36,11 +36,18 @@ pub enum Action {
     Register(Part),
 }
 
+// The channel of a function byte.
+pub(crate) fn channel_of(function: u8) -> usize
+    ensures { result ≡ channel_of function }
+{
+    (function % 8) as usize
+}
+
 // What the function byte (command in bits 7-4, 0 in bit 3, channel in bits 2-0) asks for, by the way and the byte pointer.
 pub fn decide(function: u8, direction: Direction, pointer: u8) -> Option<Action>
     ensures { result ≡ decided function direction pointer }
 {
-    let channel = function % 8;
+    let channel = channel_of(function);
     match (function / 16, direction, pointer) {
         _ if function / 8 % 2 == 1 => None,
         (0x0 | 0x2..=0x7, Direction::Function, _) => Some(Action::Select),

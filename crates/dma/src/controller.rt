@@ -2,11 +2,13 @@ ghost use Rattle.std.specs.Prelude.{◌≡◌, true};
 ghost use Rattle.dma.specs.Readback.{ReadsBack};
 ghost use Rattle.dma.specs.Registers.{part_of, with_part, takes_byte, next_pointer, cleared, selected, marked, with_status, all_masked, function_written, part_written, data_written, data_read};
 
+use crate::command::channel_of;
 use crate::{Action, Channel, Direction, Part, decide};
 use fault::Refusal;
+use std::mem;
 
 // What the DMA controller keeps besides its channels.
-#[derive(Clone, Copy)]
+#[derive(Clone, Copy, Debug, Default, PartialEq, Eq)]
 pub struct Controller {
     pub function: u8,
     pub pointer: u8,
@@ -50,34 +52,39 @@ impl Channel {
         ensures { result ≡ part_of part self.now }
     {
         match part {
-            Part::IoLow => (self.io % 256) as u8,
-            Part::IoHigh => (self.io / 256) as u8,
-            Part::AddressLow => (self.address % 256) as u8,
-            Part::AddressMiddle => (self.address / 256 % 256) as u8,
-            Part::AddressHigh => (self.address / 65536 % 256) as u8,
-            Part::CountLow => (self.count % 256) as u8,
-            Part::CountHigh => (self.count / 256) as u8,
+            Part::IoLow => self.io.to_le_bytes()[0],
+            Part::IoHigh => self.io.to_le_bytes()[1],
+            Part::AddressLow => self.address.to_le_bytes()[0],
+            Part::AddressMiddle => self.address.to_le_bytes()[1],
+            Part::AddressHigh => self.address.to_le_bytes()[2],
+            Part::CountLow => self.count.to_le_bytes()[0],
+            Part::CountHigh => self.count.to_le_bytes()[1],
             Part::Mode => self.mode,
             Part::Level => self.level,
         }
     }
 
-    // Puts one byte in, and leaves the register's others.
+    // Puts one byte in, and leaves the register's others. With an address's high byte what lies above it goes.
     pub fn write_part(&mut self, part: Part, byte: u8)
         ensures { self.new ≡ with_part part self.old byte }
     {
-        let short = u16::from(byte);
-        let long = u32::from(byte);
+        let Channel {
+            address,
+            count,
+            io,
+            ..
+        } = *self;
+        let [io_low, io_high] = io.to_le_bytes();
+        let [low, middle, high, above] = address.to_le_bytes();
+        let [count_low, count_high] = count.to_le_bytes();
         match part {
-            Part::IoLow => self.io = self.io / 256 * 256 + short,
-            Part::IoHigh => self.io = short * 256 + self.io % 256,
-            Part::AddressLow => self.address = self.address / 256 * 256 + long,
-            Part::AddressMiddle => self.address = self.address / 65536 * 65536
-                + long * 256
-                + self.address % 256,
-            Part::AddressHigh => self.address = long * 65536 + self.address % 65536,
-            Part::CountLow => self.count = self.count / 256 * 256 + short,
-            Part::CountHigh => self.count = short * 256 + self.count % 256,
+            Part::IoLow => self.io = u16::from_le_bytes([byte, io_high]),
+            Part::IoHigh => self.io = u16::from_le_bytes([io_low, byte]),
+            Part::AddressLow => self.address = u32::from_le_bytes([byte, middle, high, above]),
+            Part::AddressMiddle => self.address = u32::from_le_bytes([low, byte, high, above]),
+            Part::AddressHigh => self.address = u32::from_le_bytes([low, middle, byte, 0]),
+            Part::CountLow => self.count = u16::from_le_bytes([byte, count_high]),
+            Part::CountHigh => self.count = u16::from_le_bytes([count_low, byte]),
             Part::Mode => self.mode = byte,
             Part::Level => self.level = byte,
         }
@@ -97,11 +104,7 @@ impl Controller {
     pub fn cleared() -> Controller
         ensures { result ≡ cleared }
     {
-        Controller {
-            function: 0,
-            pointer: 0,
-            status: [0, 0],
-        }
+        Controller::default()
     }
 
     fn select(&mut self, function: u8)
@@ -117,7 +120,7 @@ impl Controller {
         ensures controller { self.new ≡ (function_written self.old channels.old byte).controller }
         ensures channels { channels.new ≡ (function_written self.old channels.old byte).channels }
     {
-        let channel = (byte % 8) as usize;
+        let channel = channel_of(byte);
         match decide(byte, Direction::Function, self.pointer) {
             Some(Action::Select) => self.select(byte),
             Some(Action::SetMask) => {
@@ -150,12 +153,13 @@ impl Controller {
         if !part.takes(byte) {
             return Err(Refusal::NotListed);
         }
-        channels[(self.function % 8) as usize].write_part(part, byte);
+        channels[channel_of(self.function)].write_part(part, byte);
         self.pointer = part.next_pointer();
         Ok(())
     }
 
     // A byte to port 001A. The law says that what is written so reads back.
+    #[tactic(auto, using(crate::proofs::Readback::reads_back))]
     pub fn write_data(&mut self, channels: &mut [Channel; 8], byte: u8) -> Result<(), Refusal>
         ensures answer { result ≡ (data_written self.old channels.old byte).answer }
         ensures controller { self.new ≡ (data_written self.old channels.old byte).controller }
@@ -173,15 +177,14 @@ impl Controller {
         ensures answer { result ≡ (data_read self.old channels.now).answer }
         ensures controller { self.new ≡ (data_read self.old channels.now).controller }
     {
-        let channel = (self.function % 8) as usize;
+        let channel = channel_of(self.function);
         match decide(self.function, Direction::Read, self.pointer) {
             Some(Action::Register(part)) => {
                 self.pointer = part.next_pointer();
                 Ok(channels[channel].read_part(part))
             }
             Some(Action::Status) => {
-                let status = self.status[channel / 4];
-                self.status[channel / 4] = 0;
+                let status = mem::take(&mut self.status[channel / 4]);
                 self.pointer = 0;
                 Ok(status)
             }
