@@ -1,4 +1,5 @@
 -- What a rack means: for each level what stands there, and the rule of its request line.
+use Rattle.std.specs.List.{list_all}
 use Rattle.std.specs.Prelude.{ℕ, ◌+◌, ◌-◌, Bool, true, false, cond, ◌&&◌, List, [], ◌∷◌, ◌++◌, length, drop, Some, None, Ok, Err, Option, Result, ◌==◌, nat_lt, slice_index}
 use Rattle.fault.specs.Numbers.{own}
 use Rattle.fault.specs.declared.Fault.{Fault}
@@ -57,8 +58,7 @@ fits wide u = nat_lt u (cond wide 65536 256)
 
 -- units that all fit
 abbrev pub all_fit : Bool → List ℕ → Bool
-all_fit wide [] = true
-all_fit wide (u ∷ us) = fits wide u && all_fit wide us
+all_fit wide = list_all (fits wide)
 
 -- a giver with a waiting unit, a taker with room
 abbrev pub ready : Kind → ℕ → ℕ → Bool
@@ -76,7 +76,7 @@ put f l v k = cond (k == l) v (f k)
 
 -- a rack with v at the level l; the rules stay
 abbrev pub with_level : Levels → ℕ → Level → Levels
-with_level r l v = record { at = put r.at l v; rule = r.rule }
+with_level r l v = record r { at = put r.at l v }
 
 -- the level as a caller sees it, with the units counted
 abbrev pub summary : Level → LevelSummary
@@ -96,7 +96,7 @@ arrive_answer v l u = cond (arrives v u) (Ok tt) (Err (own ArrivalNotTaken l))
 
 -- one unit more waits, at the end
 abbrev pub joined : Level → ℕ → Bool → Level
-joined v u line = record { kind = v.kind; wide = v.wide; line = line; waiting = v.waiting ++ u ∷ []; taken = v.taken; room = v.room - 1 }
+joined v u line = record v { line = line; waiting = v.waiting ++ u ∷ []; room = v.room - 1 }
 
 -- what an arrival leaves
 abbrev pub arrived : Levels → ℕ → ℕ → Levels
@@ -112,7 +112,7 @@ give_answer v l = cond (gives v) (Ok (slice_index v.waiting 0)) (Err (own Cannot
 
 -- the first unit waits no more
 abbrev pub emptied : Level → Bool → Level
-emptied v line = record { kind = v.kind; wide = v.wide; line = line; waiting = drop 1 v.waiting; taken = v.taken; room = v.room + 1 }
+emptied v line = record v { line = line; waiting = drop 1 v.waiting; room = v.room + 1 }
 
 -- what giving leaves
 abbrev pub gave : Levels → ℕ → Levels
@@ -128,7 +128,7 @@ take_answer v l u = cond (takes v u) (Ok tt) (Err (own CannotServe l))
 
 -- one unit more is taken, at the end
 abbrev pub filled : Level → ℕ → Bool → Level
-filled v u line = record { kind = v.kind; wide = v.wide; line = line; waiting = v.waiting; taken = v.taken ++ u ∷ []; room = v.room - 1 }
+filled v u line = record v { line = line; taken = v.taken ++ u ∷ []; room = v.room - 1 }
 
 -- what taking leaves
 abbrev pub took : Levels → ℕ → ℕ → Levels
@@ -136,7 +136,7 @@ took r l u = cond (takes (r.at l) u) (with_level r l (filled (r.at l) u (r.rule 
 
 -- Telling the last: only the line can change.
 abbrev pub lined : Level → Bool → Level
-lined v line = record { kind = v.kind; wide = v.wide; line = line; waiting = v.waiting; taken = v.taken; room = v.room }
+lined v line = record v { line = line }
 
 -- what telling a level that a transfer was the last leaves
 abbrev pub told : Levels → ℕ → Levels

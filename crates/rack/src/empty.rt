@@ -3,8 +3,8 @@ ghost use Rattle.rack.specs.Makes.{empty_rack};
 ghost use Rattle.rack.specs.Racks.{empty_meaning};
 ghost use Rattle.std.proofs.Common.{rules};
 
-use crate::{LevelSummary, Rack, arrival_not_taken, cannot_serve};
-use fault::Fault;
+use crate::{LevelSummary, Rack, refused};
+use fault::{Fault, Refusal};
 
 // A rack with no card.
 #[derive(Drop)]
@@ -38,15 +38,15 @@ impl Rack for EmptyRack {
     }
 
     fn arrive(&mut self, level: u8, _unit: u16) -> Result<(), Fault> {
-        Err(arrival_not_taken(level))
+        Err(refused(Refusal::ArrivalNotTaken, level))
     }
 
     fn give(&mut self, level: u8) -> Result<u16, Fault> {
-        Err(cannot_serve(level))
+        Err(refused(Refusal::CannotServe, level))
     }
 
     fn take(&mut self, level: u8, _unit: u16) -> Result<(), Fault> {
-        Err(cannot_serve(level))
+        Err(refused(Refusal::CannotServe, level))
     }
 
     fn tell_last(&mut self, _level: u8) {}

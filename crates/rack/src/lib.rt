@@ -2,7 +2,6 @@
 
 ghost use Rattle.std.specs.Prelude.{◌≡◌, ℕ, true, IfOk};
 ghost use Rattle.fault.specs.Numbers.{own};
-ghost use Rattle.fault.specs.declared.Refusal.TheVariants.{CannotServe, ArrivalNotTaken};
 ghost use Rattle.rack.specs.Meaning.{Levels, able, all_fit, fits, summary, unit_at, arrive_answer, arrived, give_answer, gave, take_answer, took, told};
 ghost use Rattle.rack.specs.Makes.{nothing, stands_at};
 
@@ -19,7 +18,7 @@ pub use printer::TicketPrinter;
 pub use weighing::WeighingCard;
 
 // What stands at a level.
-#[derive(Clone, Copy)]
+#[derive(Clone, Copy, Debug, PartialEq, Eq)]
 pub enum Kind {
     Empty,
     // gives its waiting units
@@ -64,18 +63,11 @@ fn stands_at(own_level: u8, level: u8) -> bool
     level == own_level && own_level < 15
 }
 
-// The fault of a level that cannot give or take.
-fn cannot_serve(level: u8) -> Fault
-    ensures { result ≡ own CannotServe level }
+// The fault of a call that a level refuses.
+fn refused(refusal: Refusal, level: u8) -> Fault
+    ensures { result ≡ own refusal level }
 {
-    Fault::own(Refusal::CannotServe, u32::from(level))
-}
-
-// The fault of a level that takes no arrival.
-fn arrival_not_taken(level: u8) -> Fault
-    ensures { result ≡ own ArrivalNotTaken level }
-{
-    Fault::own(Refusal::ArrivalNotTaken, u32::from(level))
+    Fault::own(refusal, u32::from(level))
 }
 
 // Cards by level.

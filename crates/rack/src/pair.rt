@@ -24,10 +24,7 @@ impl<A: Rack, B: Rack> Pair<A, B> {
     fn in_second(&self, level: u8) -> bool
         ensures { result ≡ is_empty ((A.Rack.meaning self.now.first).at level).kind }
     {
-        match self.first.summary(level).kind {
-            Kind::Empty => true,
-            Kind::Giver | Kind::Taker => false,
-        }
+        self.first.summary(level).kind == Kind::Empty
     }
 }
 

@@ -3,8 +3,8 @@ ghost use Rattle.rack.specs.Makes.{one_card, printing, printing_line};
 ghost use Rattle.rack.specs.Racks.{printing_meaning};
 ghost use Rattle.std.proofs.Common.{rules};
 
-use crate::{Kind, LevelSummary, Rack, arrival_not_taken, cannot_serve, stands_at};
-use fault::Fault;
+use crate::{Kind, LevelSummary, Rack, refused, stands_at};
+use fault::{Fault, Refusal};
 use std::alloc::{AllocError, Global};
 
 mod card;
@@ -49,26 +49,27 @@ impl Rack for TicketPrinter {
     }
 
     fn taken_unit(&self, level: u8, place: usize) -> Option<u16> {
-        if stands_at(self.level, level) && place < self.bytes.len() {
-            Some(u16::from(self.bytes[place]))
+        if stands_at(self.level, level) {
+            self.bytes.get(place).copied().map(u16::from)
         } else {
             None
         }
     }
 
     fn arrive(&mut self, level: u8, _unit: u16) -> Result<(), Fault> {
-        Err(arrival_not_taken(level))
+        Err(refused(Refusal::ArrivalNotTaken, level))
     }
 
     fn give(&mut self, level: u8) -> Result<u16, Fault> {
-        Err(cannot_serve(level))
+        Err(refused(Refusal::CannotServe, level))
     }
 
     fn take(&mut self, level: u8, unit: u16) -> Result<(), Fault> {
-        if !stands_at(self.level, level) || self.bytes.len() >= ROOM || unit > 255 {
-            return Err(cannot_serve(level));
+        if !stands_at(self.level, level) || self.bytes.len() >= ROOM {
+            return Err(refused(Refusal::CannotServe, level));
         }
-        self.bytes.push_reserved(unit as u8);
+        let byte = u8::try_from(unit).map_err(|_| refused(Refusal::CannotServe, level))?;
+        self.bytes.push_reserved(byte);
         Ok(())
     }
 

@@ -3,8 +3,8 @@ ghost use Rattle.rack.specs.Makes.{one_card, weighing, weighing_line};
 ghost use Rattle.rack.specs.Racks.{weighing_meaning};
 ghost use Rattle.std.proofs.Common.{rules};
 
-use crate::{Kind, LevelSummary, Rack, arrival_not_taken, cannot_serve, stands_at};
-use fault::Fault;
+use crate::{Kind, LevelSummary, Rack, refused, stands_at};
+use fault::{Fault, Refusal};
 use std::alloc::{AllocError, Global};
 use std::collections::VecDeque;
 
@@ -59,7 +59,7 @@ impl Rack for WeighingCard {
 
     fn arrive(&mut self, level: u8, unit: u16) -> Result<(), Fault> {
         if !stands_at(self.level, level) || self.units.len() >= ROOM {
-            return Err(arrival_not_taken(level));
+            return Err(refused(Refusal::ArrivalNotTaken, level));
         }
         self.units.push_back_reserved(unit);
         Ok(())
@@ -67,17 +67,15 @@ impl Rack for WeighingCard {
 
     fn give(&mut self, level: u8) -> Result<u16, Fault> {
         if !stands_at(self.level, level) {
-            return Err(cannot_serve(level));
+            return Err(refused(Refusal::CannotServe, level));
         }
-        // At place 0 nothing has to move.
-        match self.units.remove(0) {
-            Some(unit) => Ok(unit),
-            None => Err(cannot_serve(level)),
-        }
+        self.units
+            .pop_front()
+            .ok_or(refused(Refusal::CannotServe, level))
     }
 
     fn take(&mut self, level: u8, _unit: u16) -> Result<(), Fault> {
-        Err(cannot_serve(level))
+        Err(refused(Refusal::CannotServe, level))
     }
 
     fn tell_last(&mut self, _level: u8) {}
