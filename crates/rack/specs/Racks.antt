@@ -2,8 +2,8 @@
 use Rattle.std.specs.Prelude.{vec_items}
 use Rattle.std.specs.VecDeque.{deque_items}
 use Rattle.rack.specs.declared.empty.EmptyRack.{EmptyRack}
-use Rattle.rack.specs.declared.weighing.card.WeighingCard.{WeighingCard}
-use Rattle.rack.specs.declared.printer.card.TicketPrinter.{TicketPrinter}
+use Rattle.rack.specs.declared.weighing.WeighingCard.{WeighingCard}
+use Rattle.rack.specs.declared.printer.TicketPrinter.{TicketPrinter}
 use Rattle.rack.specs.declared.pair.Pair.{Pair}
 use Rattle.rack.specs.Meaning.{Levels}
 use Rattle.rack.specs.Makes.{empty_rack, one_card, weighing, weighing_line, printing, printing_line, pair}

@@ -1,19 +1,25 @@
-ghost use Rattle.std.specs.Prelude.{◌≡◌, [], IfOk};
-ghost use Rattle.rack.specs.Makes.{one_card, printing, printing_line};
-ghost use Rattle.rack.specs.Racks.{printing_meaning};
+ghost use Rattle.std.specs.Prelude.{◌≡◌, ◌≤◌, vec_len, vec_capacity, [], IfOk};
+ghost use Rattle.rack.specs.Makes.{one_card, printing, printing_line, printing_room};
 ghost use Rattle.std.proofs.Common.{rules};
 
 use crate::{Kind, LevelSummary, Rack, refused, stands_at};
 use fault::{Fault, Refusal};
 use std::alloc::{AllocError, Global};
 
-mod card;
-
-pub use card::TicketPrinter;
-
 const ROOM: usize = 2048;
 
+// The ticket printer: a taker of 8-bit units, whose line is up while room is left.
+// It has room for 2,048 from the making on.
+#[derive(Drop)]
+pub struct TicketPrinter {
+    level: u8,
+    bytes: Vec<u8>,
+    ghost held: { (vec_len bytes ≤ printing_room) × (printing_room ≤ vec_capacity bytes) },
+}
+
 impl TicketPrinter {
+    ghost use Rattle.rack.specs.Racks.{printing_meaning};
+
     pub fn new(heap: Global, level: u8) -> Result<TicketPrinter, AllocError>
         ensures { IfOk result (λ p. printing_meaning p ≡ one_card level (printing []) printing_line) }
     {
@@ -23,6 +29,8 @@ impl TicketPrinter {
 }
 
 impl Rack for TicketPrinter {
+    ghost use Rattle.rack.specs.Racks.{printing_meaning};
+
     ghost meaning = { printing_meaning };
 
     ghost up_able = { Prim.search rules };

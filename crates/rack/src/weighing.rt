@@ -1,6 +1,7 @@
-ghost use Rattle.std.specs.Prelude.{◌≡◌, [], IfOk};
-ghost use Rattle.rack.specs.Makes.{one_card, weighing, weighing_line};
-ghost use Rattle.rack.specs.Racks.{weighing_meaning};
+ghost use Rattle.std.specs.Prelude.{◌≡◌, ◌≤◌, true, [], IfOk};
+ghost use Rattle.std.specs.VecDeque.{deque_len, deque_capacity};
+ghost use Rattle.rack.specs.Meaning.{all_fit};
+ghost use Rattle.rack.specs.Makes.{one_card, weighing, weighing_line, weighing_room};
 ghost use Rattle.std.proofs.Common.{rules};
 
 use crate::{Kind, LevelSummary, Rack, refused, stands_at};
@@ -8,13 +9,21 @@ use fault::{Fault, Refusal};
 use std::alloc::{AllocError, Global};
 use std::collections::VecDeque;
 
-mod card;
-
-pub use card::WeighingCard;
-
 const ROOM: usize = 512;
 
+// The weighing card: a giver of 16-bit units, whose line is up while a unit waits.
+// It has room for 512 from the making on.
+#[derive(Drop)]
+pub struct WeighingCard {
+    level: u8,
+    units: VecDeque<u16>,
+    ghost held: { (deque_len units ≤ weighing_room) × (weighing_room ≤ deque_capacity units) },
+    ghost fit: { all_fit true units.items ≡ true },
+}
+
 impl WeighingCard {
+    ghost use Rattle.rack.specs.Racks.{weighing_meaning};
+
     pub fn new(heap: Global, level: u8) -> Result<WeighingCard, AllocError>
         ensures { IfOk result (λ c. weighing_meaning c ≡ one_card level (weighing []) weighing_line) }
     {
@@ -24,6 +33,8 @@ impl WeighingCard {
 }
 
 impl Rack for WeighingCard {
+    ghost use Rattle.rack.specs.Racks.{weighing_meaning};
+
     ghost meaning = { weighing_meaning };
 
     ghost up_able = { Prim.search rules };
