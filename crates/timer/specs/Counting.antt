@@ -203,4 +203,4 @@ after_read c = cond (is_set_up c.phase) (record { full = c.full; mode = c.mode; 
 
 -- A look at a counter: nothing before its control byte.
 abbrev pub setting : Counter → Option Setting
-setting c = cond (is_set_up c.phase) (Some (record { mode = mode_number c.mode; bytes = access_bits c.access; standing = c.standing })) None
+setting c = cond (is_set_up c.phase) (Some (record { mode = c.mode; access = c.access; standing = c.standing })) None

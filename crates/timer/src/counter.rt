@@ -1,10 +1,11 @@
 // One counter of the timer, in its modes 0, 2 and 3.
-ghost use Rattle.std.specs.Prelude.{◌≡◌, OnErr};
+ghost use Rattle.std.specs.Prelude.{◌≡◌, ◌≤◌, OnErr};
 ghost use Rattle.timer.specs.Counting.{mode_number, access_bits, start, loaded, terminal, rate, square, counted, whole, falls_short, after_whole, out_at_byte, written, taken, took, stepped, answered, unset, start_out, set_up, reads_high, turned, read_answer, after_read, is_set_up, setting};
+ghost use Rattle.timer.specs.Periods.{count_of};
 
 use fault::Refusal;
 
-#[derive(Clone, Copy)]
+#[derive(Clone, Copy, Debug, PartialEq, Eq)]
 pub enum Mode {
     // mode 0: OUT goes high at zero and stays
     TerminalCount,
@@ -15,14 +16,14 @@ pub enum Mode {
 }
 
 // Which bytes of the count are written and read.
-#[derive(Clone, Copy)]
+#[derive(Clone, Copy, Debug, PartialEq, Eq)]
 pub enum Access {
     Low,
     High,
     LowThenHigh,
 }
 
-#[derive(Clone, Copy)]
+#[derive(Clone, Copy, Debug, PartialEq, Eq)]
 pub enum Phase {
     // no control byte yet
     Unset,
@@ -45,7 +46,7 @@ pub enum Event {
     Byte(u8),
 }
 
-#[derive(Clone, Copy)]
+#[derive(Clone, Copy, Debug, PartialEq, Eq)]
 pub struct Counter {
     // what a written 0 means, and what counting goes on modulo
     pub full: u32,
@@ -64,33 +65,46 @@ pub struct Counter {
     pub read_high: bool,
 }
 
-// What a look at a counter shows: its mode's number, its bytes as bits 5-4 of the control byte, its standing count.
-#[derive(Clone, Copy)]
+// What a look at a counter shows.
+#[derive(Clone, Copy, Debug, PartialEq, Eq)]
 pub struct Setting {
-    pub mode: u8,
-    pub bytes: u8,
+    pub mode: Mode,
+    pub access: Access,
     pub standing: u32,
 }
 
-impl Mode {
-    pub fn number(self) -> u8
-        ensures { result ≡ mode_number self }
-    {
-        match self {
+// The number of the mode in a control byte.
+impl From<Mode> for u8 {
+    ghost from_gives = { λ mode n. n ≡ mode_number mode };
+
+    fn from(mode: Mode) -> u8 {
+        match mode {
             Mode::TerminalCount => 0,
             Mode::RateGenerator => 2,
             Mode::SquareWave => 3,
         }
     }
+}
 
+// Bits 5-4 of the control byte.
+impl From<Access> for u8 {
+    ghost from_gives = { λ access n. n ≡ access_bits access };
+
+    fn from(access: Access) -> u8 {
+        match access {
+            Access::Low => 1,
+            Access::High => 2,
+            Access::LowThenHigh => 3,
+        }
+    }
+}
+
+impl Mode {
     // OUT as a control byte leaves it.
     pub(crate) fn start_out(self) -> bool
         ensures { result ≡ start_out self }
     {
-        match self {
-            Mode::TerminalCount => false,
-            Mode::RateGenerator | Mode::SquareWave => true,
-        }
+        self != Mode::TerminalCount
     }
 
     // Where a load of the count starts: mode 3 counts even numbers only.
@@ -106,10 +120,7 @@ impl Mode {
     pub(crate) fn falls_short(self, count: u32) -> bool
         ensures { result ≡ falls_short self count }
     {
-        match self {
-            Mode::TerminalCount => false,
-            Mode::RateGenerator | Mode::SquareWave => count == 1,
-        }
+        self != Mode::TerminalCount && count == 1
     }
 
     // The phase after a whole count.
@@ -126,36 +137,39 @@ impl Mode {
     fn out_at_byte(self, out: bool) -> bool
         ensures { result ≡ out_at_byte self out }
     {
-        match self {
-            Mode::TerminalCount => false,
-            Mode::RateGenerator | Mode::SquareWave => out,
-        }
+        self != Mode::TerminalCount && out
     }
 }
 
 impl Access {
-    // Bits 5-4 of the control byte.
-    pub fn bits(self) -> u8
-        ensures { result ≡ access_bits self }
+    // The count that its bytes make; a byte that is not written is 0.
+    pub(crate) fn count(self, low: u8, high: u8) -> u32
+        ensures value { result ≡ count_of self low high }
+        ensures bound { result ≤ 65535 }
     {
         match self {
-            Access::Low => 1,
-            Access::High => 2,
-            Access::LowThenHigh => 3,
+            Access::Low => u32::from(low),
+            Access::High => 256 * u32::from(high),
+            Access::LowThenHigh => u32::from(low) + 256 * u32::from(high),
         }
     }
 
-    // The count that a byte makes whole, if it does; a byte that is not written is 0.
+    // The count that a byte makes whole, if it does.
     fn whole(self, half: Option<u8>, byte: u8) -> Option<u32>
         ensures { result ≡ whole self half byte }
     {
-        match (self, half) {
-            (Access::Low, _) => Some(u32::from(byte)),
-            (Access::High, _) => Some(256 * u32::from(byte)),
-            (Access::LowThenHigh, Some(low)) => Some(u32::from(low) + 256 * u32::from(byte)),
-            (Access::LowThenHigh, None) => None,
+        match self {
+            Access::Low | Access::High => Some(self.count(byte, byte)),
+            Access::LowThenHigh => half.map(|low| self.count(low, byte)),
         }
     }
+}
+
+// What a written count means at a counter with that full count.
+pub(crate) fn written(full: u32, count: u32) -> u32
+    ensures { result ≡ written full count }
+{
+    if count == 0 { full } else { count }
 }
 
 impl Counter {
@@ -192,24 +206,21 @@ impl Counter {
     pub fn is_set_up(&self) -> bool
         ensures { result ≡ is_set_up self.now.phase }
     {
-        match self.phase {
-            Phase::Unset => false,
-            _ => true,
-        }
+        self.phase != Phase::Unset
     }
 
     // None before a control byte.
     pub fn setting(&self) -> Option<Setting>
         ensures { result ≡ setting self.now }
     {
-        match self.phase {
-            Phase::Unset => None,
-            _ => Some(Setting {
-                mode: self.mode.number(),
-                bytes: self.access.bits(),
-                standing: self.standing,
-            }),
+        if !self.is_set_up() {
+            return None;
         }
+        Some(Setting {
+            mode: self.mode,
+            access: self.access,
+            standing: self.standing,
+        })
     }
 
     fn load(&mut self)
@@ -281,7 +292,7 @@ impl Counter {
         }
         self.phase = self.mode.after_whole(self.phase);
         self.out = self.mode.out_at_byte(self.out);
-        self.newest = if count == 0 { self.full } else { count };
+        self.newest = written(self.full, count);
         self.half = None;
         Ok(())
     }
@@ -315,7 +326,7 @@ impl Counter {
         ensures answer { result ≡ read_answer self.old }
         ensures after { self.new ≡ after_read self.old }
     {
-        if let Phase::Unset = self.phase {
+        if !self.is_set_up() {
             return Err(Refusal::WrongWay);
         }
         let high = match self.access {

@@ -6,7 +6,7 @@ ghost use Rattle.timer.specs.Timing.{Apart, at_power_on, rises, out3_rises, foll
 use crate::{Access, Counter, CounterName, Event, Mode, decode_control};
 use fault::Refusal;
 
-#[derive(Clone, Copy)]
+#[derive(Clone, Copy, Debug, PartialEq, Eq)]
 pub struct Timers {
     pub system: Counter,
     pub speaker: Counter,
