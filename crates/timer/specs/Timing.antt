@@ -59,10 +59,25 @@ pub record Apart (s t : Timers) : Type 0 where
 abbrev pub acknowledged : Timers → Timers
 acknowledged t = with_latch t false
 
+-- the counter behind a count port, and the timers with another in its place
+abbrev pub counter_at : Timers → CountPort → Counter
+counter_at t SystemPort = t.system
+counter_at t SpeakerPort = t.speaker
+counter_at t WatchdogPort = t.watchdog
+
+abbrev pub with_counter : Timers → CountPort → Counter → Timers
+with_counter t SystemPort c = with_system t c
+with_counter t SpeakerPort c = with_speaker t c
+with_counter t WatchdogPort c = with_watchdog t c
+
+-- the count port of a counter that port 0043 sets up
+abbrev pub port_of : CounterName → CountPort
+port_of System = SystemPort
+port_of Speaker = SpeakerPort
+
 -- a control byte to port 0043
 abbrev pub set_at : CounterName → Timers → Control → Timers
-set_at System t k = with_system t (set_up t.system.full k.mode k.access)
-set_at Speaker t k = with_speaker t (set_up t.speaker.full k.mode k.access)
+set_at n t k = with_counter t (port_of n) (set_up (counter_at t (port_of n)).full k.mode k.access)
 
 abbrev pub controlled_by : Option Control → Timers → Timers
 controlled_by None t = t
@@ -87,24 +102,16 @@ watchdog_answer b = cond (b == 0x10) (Ok tt) (Err NotListed)
 
 -- count bytes written and read
 abbrev pub count_written : Timers → CountPort → ℕ → Timers
-count_written t SystemPort b = with_system t (stepped t.system (Byte b))
-count_written t SpeakerPort b = with_speaker t (stepped t.speaker (Byte b))
-count_written t WatchdogPort b = with_watchdog t (stepped t.watchdog (Byte b))
+count_written t p b = with_counter t p (stepped (counter_at t p) (Byte b))
 
 abbrev pub write_answer : Timers → CountPort → ℕ → Result (Unit {0}) Refusal
-write_answer t SystemPort b = answered t.system (Byte b)
-write_answer t SpeakerPort b = answered t.speaker (Byte b)
-write_answer t WatchdogPort b = answered t.watchdog (Byte b)
+write_answer t p b = answered (counter_at t p) (Byte b)
 
 abbrev pub count_read : Timers → CountPort → Timers
-count_read t SystemPort = with_system t (after_read t.system)
-count_read t SpeakerPort = with_speaker t (after_read t.speaker)
-count_read t WatchdogPort = with_watchdog t (after_read t.watchdog)
+count_read t p = with_counter t p (after_read (counter_at t p))
 
 abbrev pub read_from : Timers → CountPort → Result ℕ Refusal
-read_from t SystemPort = read_answer t.system
-read_from t SpeakerPort = read_answer t.speaker
-read_from t WatchdogPort = read_answer t.watchdog
+read_from t p = read_answer (counter_at t p)
 
 -- the gate of counter 2, by its edges
 abbrev pub edged : Bool → Bool → Counter → Counter

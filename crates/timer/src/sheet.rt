@@ -31,15 +31,10 @@ pub fn sheet_entry(byte: u8) -> u8
 pub fn decode_control(byte: u8) -> Option<Control>
     ensures { result ≡ control_of byte }
 {
-    let entry = sheet_entry(byte);
-    if entry == 0 {
-        return None;
-    }
-    let fields = entry - 1;
-    let counter = if fields / 32 == 0 {
-        CounterName::System
-    } else {
-        CounterName::Speaker
+    let fields = sheet_entry(byte).checked_sub(1)?;
+    let counter = match fields / 32 {
+        0 => CounterName::System,
+        _ => CounterName::Speaker,
     };
     let access = match fields / 8 % 4 {
         1 => Access::Low,

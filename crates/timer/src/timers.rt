@@ -1,7 +1,9 @@
 // The three counters together: counter 0 (system), counter 2 (speaker) and counter 3 (watchdog), with the latch of
 // interrupt 0 and the gate of counter 2.
+ghost use Rattle.std.specs.Borrow.{sem};
 ghost use Rattle.std.specs.Prelude.{◌≡◌, false, OnErr};
-ghost use Rattle.timer.specs.Timing.{Apart, at_power_on, rises, out3_rises, followed, ticked, acknowledged, controlled, control_answer, watchdog_controlled, watchdog_answer, count_written, write_answer, count_read, read_from, gated};
+ghost use Rattle.timer.specs.Lending.{LendsCounter};
+ghost use Rattle.timer.specs.Timing.{Apart, at_power_on, rises, out3_rises, followed, ticked, acknowledged, controlled, control_answer, watchdog_controlled, watchdog_answer, port_of, counter_at, count_written, write_answer, count_read, read_from, gated};
 
 use crate::{Access, Counter, CounterName, Event, Mode, decode_control};
 use fault::Refusal;
@@ -28,6 +30,17 @@ pub enum CountPort {
     Watchdog,
 }
 
+impl From<CounterName> for CountPort {
+    ghost from_gives = { λ name port. port ≡ port_of name };
+
+    fn from(name: CounterName) -> CountPort {
+        match name {
+            CounterName::System => CountPort::System,
+            CounterName::Speaker => CountPort::Speaker,
+        }
+    }
+}
+
 impl Timers {
     pub fn power_on() -> Timers
         ensures { result ≡ at_power_on }
@@ -41,6 +54,18 @@ impl Timers {
         }
     }
 
+    // The counter behind that port.
+    fn counter(&mut self, port: CountPort) -> &mut Counter
+        ensures* lends { sem 𝓛 (LendsCounter self.entry port result) }
+        ensures value { result.now ≡ counter_at self.old port }
+    {
+        match port {
+            CountPort::System => &mut self.system,
+            CountPort::Speaker => &mut self.speaker,
+            CountPort::Watchdog => &mut self.watchdog,
+        }
+    }
+
     // Where OUT 0 has risen, clocks the watchdog under the latch and then sets the latch. True where OUT 3 rises.
     fn follow(&mut self, was: bool) -> bool
         ensures after { self.new ≡ followed was self.old }
@@ -50,7 +75,7 @@ impl Timers {
             return false;
         }
         let before = self.watchdog.out;
-        let _ = self.watchdog.step(Event::Clock(self.latch));
+        self.watchdog.step(Event::Clock(self.latch)).unwrap();
         self.latch = true;
         !before && self.watchdog.out
     }
@@ -62,8 +87,8 @@ impl Timers {
         ensures apart { Apart self.old self.new }
     {
         let was = self.system.out;
-        let _ = self.system.step(Event::Clock(true));
-        let _ = self.speaker.step(Event::Clock(self.gate));
+        self.system.step(Event::Clock(true)).unwrap();
+        self.speaker.step(Event::Clock(self.gate)).unwrap();
         self.follow(was)
     }
 
@@ -78,14 +103,10 @@ impl Timers {
         ensures after { self.new ≡ controlled self.old byte }
         ensures answer { result ≡ control_answer self.old byte }
     {
-        let Some(control) = decode_control(byte) else {
-            return Err(Refusal::NotListed);
-        };
+        let control = decode_control(byte).ok_or(Refusal::NotListed)?;
         let was = self.system.out;
-        match control.counter {
-            CounterName::System => self.system.set_up(control.mode, control.access),
-            CounterName::Speaker => self.speaker.set_up(control.mode, control.access),
-        }
+        self.counter(CountPort::from(control.counter))
+            .set_up(control.mode, control.access);
         Ok(self.follow(was))
     }
 
@@ -107,33 +128,24 @@ impl Timers {
         ensures answer { result ≡ write_answer self.old port byte }
         ensures unaltered { OnErr result (self.new ≡ self.old) }
     {
-        match port {
-            CountPort::System => self.system.step(Event::Byte(byte)),
-            CountPort::Speaker => self.speaker.step(Event::Byte(byte)),
-            CountPort::Watchdog => self.watchdog.step(Event::Byte(byte)),
-        }
+        self.counter(port).step(Event::Byte(byte))
     }
 
     pub fn read_count(&mut self, port: CountPort) -> Result<u8, Refusal>
         ensures after { self.new ≡ count_read self.old port }
         ensures answer { result ≡ read_from self.old port }
     {
-        match port {
-            CountPort::System => self.system.read(),
-            CountPort::Speaker => self.speaker.read(),
-            CountPort::Watchdog => self.watchdog.read(),
-        }
+        self.counter(port).read()
     }
 
     // Puts the gate of counter 2.
     pub fn set_gate(&mut self, gate: bool)
         ensures { self.new ≡ gated self.old gate }
     {
-        if gate && !self.gate {
-            let _ = self.speaker.step(Event::GateRise);
-        }
-        if !gate && self.gate {
-            let _ = self.speaker.step(Event::GateFall);
+        match (self.gate, gate) {
+            (false, true) => self.speaker.step(Event::GateRise).unwrap(),
+            (true, false) => self.speaker.step(Event::GateFall).unwrap(),
+            (_, _) => {}
         }
         self.gate = gate;
     }
