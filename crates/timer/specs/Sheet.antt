@@ -1,5 +1,7 @@
 -- The control bytes of port 0043: bits 7-6 the counter, bits 5-4 its bytes, bits 3-1 the mode, bit 0 zero.
-use Rattle.std.specs.Prelude.{ℕ, ◌+◌, ◌*◌, ◌/◌, ◌%◌, Bool, cond, ◌&&◌, ◌||◌, Some, None, Option, ◌==◌}
+use Rattle.std.specs.Prelude.{ℕ, ◌+◌, ◌*◌, ◌/◌, ◌%◌, Bool, cond, ◌&&◌, ◌||◌, Some, None, Ok, Err, Option, Result, ◌==◌}
+use Rattle.fault.specs.declared.Refusal.{Refusal}
+use Rattle.fault.specs.declared.Refusal.TheVariants.{NotListed}
 use Rattle.timer.specs.declared.counter.Access.{Access}
 use Rattle.timer.specs.declared.counter.Access.TheVariants.{Low, High, LowThenHigh}
 use Rattle.timer.specs.declared.counter.Mode.{Mode}
@@ -50,6 +52,16 @@ access_of n = cond (n == access_bits Low) Low (cond (n == access_bits High) High
 
 abbrev pub mode_of : ℕ → Mode
 mode_of n = cond (n == mode_number TerminalCount) TerminalCount (cond (n == mode_number RateGenerator) RateGenerator SquareWave)
+
+-- the case of a number, if it has one
+abbrev pub counter_from : ℕ → Result CounterName Refusal
+counter_from n = cond (names_counter n) (Ok (counter_of n)) (Err NotListed)
+
+abbrev pub access_from : ℕ → Result Access Refusal
+access_from n = cond (names_access n) (Ok (access_of n)) (Err NotListed)
+
+abbrev pub mode_from : ℕ → Result Mode Refusal
+mode_from n = cond (names_mode n) (Ok (mode_of n)) (Err NotListed)
 
 -- what a byte asks for, if it is listed
 abbrev pub control_of : ℕ → Option Control

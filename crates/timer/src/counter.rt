@@ -2,6 +2,7 @@
 ghost use Rattle.std.specs.Prelude.{◌≡◌, ◌≤◌, OnErr};
 ghost use Rattle.timer.specs.Counting.{mode_number, access_bits, start, loaded, terminal, rate, square, counted, whole, falls_short, after_whole, out_at_byte, written, taken, took, stepped, answered, unset, start_out, set_up, reads_high, turned, read_answer, after_read, is_set_up, setting};
 ghost use Rattle.timer.specs.Periods.{count_of};
+ghost use Rattle.timer.specs.Sheet.{mode_from, access_from};
 
 use fault::Refusal;
 
@@ -86,6 +87,21 @@ impl From<Mode> for u8 {
     }
 }
 
+impl TryFrom<u8> for Mode {
+    type Error = Refusal;
+
+    ghost try_from_gives = { λ n mode. mode ≡ mode_from n };
+
+    fn try_from(n: u8) -> Result<Mode, Refusal> {
+        match n {
+            0 => Ok(Mode::TerminalCount),
+            2 => Ok(Mode::RateGenerator),
+            3 => Ok(Mode::SquareWave),
+            _ => Err(Refusal::NotListed),
+        }
+    }
+}
+
 // Bits 5-4 of the control byte.
 impl From<Access> for u8 {
     ghost from_gives = { λ access n. n ≡ access_bits access };
@@ -95,6 +111,21 @@ impl From<Access> for u8 {
             Access::Low => 1,
             Access::High => 2,
             Access::LowThenHigh => 3,
+        }
+    }
+}
+
+impl TryFrom<u8> for Access {
+    type Error = Refusal;
+
+    ghost try_from_gives = { λ n access. access ≡ access_from n };
+
+    fn try_from(n: u8) -> Result<Access, Refusal> {
+        match n {
+            1 => Ok(Access::Low),
+            2 => Ok(Access::High),
+            3 => Ok(Access::LowThenHigh),
+            _ => Err(Refusal::NotListed),
         }
     }
 }

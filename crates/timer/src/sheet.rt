@@ -1,9 +1,10 @@
 // The control bytes of port 0043: which counter, which bytes of its count, which mode.
 ghost use Rattle.std.specs.Prelude.{◌≡◌};
-ghost use Rattle.timer.specs.Sheet.{entry_of, control_of};
+ghost use Rattle.timer.specs.Sheet.{entry_of, control_of, counter_from};
 
 use crate::table::SHEET;
 use crate::{Access, Mode};
+use fault::Refusal;
 
 #[derive(Clone, Copy)]
 pub enum CounterName {
@@ -11,6 +12,21 @@ pub enum CounterName {
     System,
     // counter 2
     Speaker,
+}
+
+// Bits 7-6 of the control byte.
+impl TryFrom<u8> for CounterName {
+    type Error = Refusal;
+
+    ghost try_from_gives = { λ n name. name ≡ counter_from n };
+
+    fn try_from(n: u8) -> Result<CounterName, Refusal> {
+        match n {
+            0 => Ok(CounterName::System),
+            2 => Ok(CounterName::Speaker),
+            _ => Err(Refusal::NotListed),
+        }
+    }
 }
 
 #[derive(Clone, Copy)]
@@ -32,23 +48,9 @@ pub fn decode_control(byte: u8) -> Option<Control>
     ensures { result ≡ control_of byte }
 {
     let fields = sheet_entry(byte).checked_sub(1)?;
-    let counter = match fields / 32 {
-        0 => CounterName::System,
-        _ => CounterName::Speaker,
-    };
-    let access = match fields / 8 % 4 {
-        1 => Access::Low,
-        2 => Access::High,
-        _ => Access::LowThenHigh,
-    };
-    let mode = match fields % 8 {
-        0 => Mode::TerminalCount,
-        2 => Mode::RateGenerator,
-        _ => Mode::SquareWave,
-    };
     Some(Control {
-        counter,
-        access,
-        mode,
+        counter: CounterName::try_from(fields / 32).ok()?,
+        access: Access::try_from(fields / 8 % 4).ok()?,
+        mode: Mode::try_from(fields % 8).ok()?,
     })
 }
