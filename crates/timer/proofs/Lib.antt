@@ -1,3 +1,2 @@
-pub mod Entries
 pub mod Periods
 pub mod Watching

@@ -1,5 +1,5 @@
 -- The closed forms of OUT, by the state of the counter after each clock of a period.
-use Rattle.std.proofs.Common.{◌≡◌, ℕ, zero, suc, ◌+◌, ◌-◌, ◌*◌, ◌/◌, ◌%◌, ◌<◌, ◌≤◌, Bool, true, false, cond, not, ◌&&◌, eqb, ltb, leb, Some, None, sym, refl, ap, ◌∙◌, ⊎_elim, mod-lt, mod-eq_of_lt, suc-mul, add_comm, suc-add, div-add-mod', zero-add, zero-mul, arith}
+use Rattle.std.proofs.Common.{◌≡◌, ℕ, zero, suc, ◌+◌, ◌-◌, ◌*◌, ◌/◌, ◌%◌, ◌<◌, ◌≤◌, Bool, true, false, cond, not, ◌&&◌, eqb, ltb, leb, None, sym, refl, ap, ◌∙◌, ⊎_elim, mod-lt, mod-eq_of_lt, suc-mul, add_comm, suc-add, div-add-mod', zero-add, zero-mul, arith}
 use native.Mathlib.Nat.{suc-mod, mod_self}
 use Rattle.std.proofs.lemmas.Bool.{cases_lt, cases_eq, lt-ltb, le-ltb, eq-eqb, ne_eqb}
 use Rattle.std.proofs.lemmas.Bool.Decides.{nat_tests}
@@ -11,7 +11,7 @@ use Rattle.timer.specs.declared.counter.Mode.{Mode}
 use Rattle.timer.specs.declared.counter.Mode.TheVariants.{TerminalCount, RateGenerator, SquareWave}
 use Rattle.timer.specs.declared.counter.Phase.TheVariants.{First, Running}
 use Rattle.timer.specs.Counting.{stepped, start_out, less, written, falls_short}
-use Rattle.timer.specs.Periods.{clocks, prepared, count_of, out_form, out_after, ClosedForm}
+use Rattle.timer.specs.Periods.{clocks, prepared, count_of, out_form, ClosedForm}
 
 -- the clocks of a sum, and whole periods
 clocks_add : (a b : ℕ) (c : Counter) → clocks (a + b) c ≡ clocks a (clocks b c)
@@ -230,15 +230,3 @@ closed_at full m a l h (suc t) f e p = closed_form full m a l h t f e
 pub closed_start : (full : ℕ) (m : Mode) (a : Access) (l h : ℕ) → falls_short m (count_of a l h) ≡ false
     → (clocks 0 (prepared full m a l h)).out ≡ start_out m
 closed_start full m a l h e = ap (λ c. c.out) (is_prepared full m a l h e)
-
--- what is answered of OUT: nothing for a refused count, the start before the first clock, the closed form after
-pub short_out : (m : Mode) (a : Access) (l h t : ℕ) → falls_short m (count_of a l h) ≡ true → None ≡ out_after 65536 m a l h t
-short_out m a l h t e = rw e
-
-pub first_out : (m : Mode) (a : Access) (l h t : ℕ) (v : Bool) → falls_short m (count_of a l h) ≡ false → t ≡ 0 → v ≡ start_out m → Some v ≡ out_after 65536 m a l h t
-first_out m a l h t v e z s =
-    rw e (ap Some (s ∙ (sym (closed_start 65536 m a l h e) ∙ ap (λ k. (clocks k (prepared 65536 m a l h)).out) (sym z))))
-
-pub later_out : (m : Mode) (a : Access) (l h t : ℕ) (v : Bool) → falls_short m (count_of a l h) ≡ false → (t ≡ 0 → ⊥)
-    → v ≡ out_form m (written 65536 (count_of a l h)) t → Some v ≡ out_after 65536 m a l h t
-later_out m a l h t v e z s = let p : 0 < t = grind arith in rw e (ap Some (s ∙ sym (closed_at 65536 m a l h t (omega arith) e p)))

@@ -24,6 +24,7 @@ impl Mode {
 
 // OUT after so many clocks with the gate high, of counter 0 or 2 freshly set up and given one whole count;
 // None where the count is refused. The law says that the closed form is the stepwise rule for any number of clocks.
+#[tactic(auto, using(crate::proofs::Periods::closed_form, crate::proofs::Periods::closed_start, crate::proofs::Periods::closed_at))]
 pub fn predict_out(mode: Mode, access: Access, low: u8, high: u8, clocks: u32) -> Option<bool>
     ensures answer { result ≡ out_after 65536 mode access low high clocks }
     ensures law { ClosedForm }
@@ -39,6 +40,7 @@ pub fn predict_out(mode: Mode, access: Access, low: u8, high: u8, clocks: u32) -
 }
 
 // How many unanswered rises of OUT 0, after the one that loads, raise OUT 3 where that count is written to port 0044.
+#[tactic(auto, using(crate::proofs::Watching::watchdog_law))]
 pub fn watchdog_limit(count: u8) -> u16
     ensures answer { result ≡ written 256 count }
     ensures law { WatchdogLaw }
