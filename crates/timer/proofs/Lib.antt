@@ -1,2 +1,3 @@
 pub mod Periods
+pub mod Entries
 pub mod Watching

@@ -1,7 +1,7 @@
 -- The closed forms of OUT, by the state of the counter after each clock of a period.
-use Rattle.std.proofs.Common.{◌≡◌, ℕ, zero, suc, ◌+◌, ◌-◌, ◌*◌, ◌/◌, ◌%◌, ◌<◌, ◌≤◌, Bool, true, false, cond, not, ◌&&◌, eqb, ltb, leb, None, sym, refl, ap, ◌∙◌, ⊎_elim, mod-lt, mod-eq_of_lt, suc-mul, add_comm, suc-add, div-add-mod', zero-add, zero-mul, arith}
+use Rattle.std.proofs.Common.{◌≡◌, ℕ, zero, suc, ◌+◌, ◌-◌, ◌*◌, ◌/◌, ◌%◌, ◌<◌, ◌≤◌, Bool, true, false, cond, not, eqb, ltb, None, sym, refl, ap, ◌∙◌, ⊎_elim, mod-lt, mod-eq_of_lt, suc-mul, add_comm, suc-add, div-add-mod', zero-add, zero-mul, arith}
 use native.Mathlib.Nat.{suc-mod, mod_self}
-use Rattle.std.proofs.lemmas.Bool.{cases_lt, cases_eq, lt-ltb, le-ltb, eq-eqb, ne_eqb}
+use Rattle.std.proofs.lemmas.Bool.{cases_lt}
 use Rattle.std.proofs.lemmas.Bool.Decides.{nat_tests}
 use Rattle.timer.specs.declared.counter.Access.{Access}
 use Rattle.timer.specs.declared.counter.Access.TheVariants.{Low, High, LowThenHigh}
@@ -66,11 +66,8 @@ module _ (full : ℕ) (a : Access) (n : ℕ) (pos : 1 ≤ n) where
   step0 s s' u u' p q = λ i. at0 (p i) (q i)
 
   low0 : (t : ℕ) → t < n → clocks (suc t) from0 ≡ at0 (n - t) false
-  low0 zero h = let e : n ≡ n - zero = omega arith in ap (λ s. at0 s false) e
-  low0 (suc t) h =
-      let e : less full (n - t) ≡ n - suc t = grind (arith, nat_tests) in
-      let f : cond (eqb (n - t) 1) true false ≡ false = grind (arith, nat_tests) in
-      ap (λ d. stepped d (Clock true)) (low0 t (omega arith)) ∙ step0 (n - t) (n - suc t) false false e f
+  low0 zero h = grind arith
+  low0 (suc t) h = grind (arith, nat_tests, low0 t)
 
   high0 : (t : ℕ) → n ≤ t → (s : ℕ) × (clocks (suc t) from0 ≡ at0 s true)
   high0 zero h = absurd (omega arith)
@@ -86,57 +83,29 @@ module _ (full : ℕ) (a : Access) (n : ℕ) (pos : 1 ≤ n) where
       (cases_lt t n)
 
   pub form0 : (t : ℕ) → (clocks (suc t) from0).out ≡ ltb n (suc t)
-  form0 t = ⊎_elim
-      (λ (lt : t < n). let e : ltb n (suc t) ≡ false = le-ltb n (suc t) (omega arith) in ap (λ d. d.out) (low0 t lt) ∙ sym e)
-      (λ (ge : n ≤ t). let e : ltb n (suc t) ≡ true = lt-ltb n (suc t) (omega arith) in ap (λ d. d.out) (high0 t ge).1 ∙ sym e)
-      (cases_lt t n)
+  form0 t = grind (arith, nat_tests, low0 t, high0 t)
 
 -- a number and the next one, modulo n
 next_mod : (t n : ℕ) → 0 < n → suc t % n ≡ cond (eqb (suc (t % n)) n) 0 (suc (t % n))
-next_mod t n h = ⊎_elim
-    (λ (e : suc (t % n) ≡ n).
-    let b : eqb (suc (t % n)) n ≡ true = eq-eqb (suc (t % n)) n e in
-    rw b (suc-mod t n ∙ (ap (λ k. k % n) e ∙ mod_self n)))
-    (λ (ne : suc (t % n) ≡ n → ⊥).
-    let b : eqb (suc (t % n)) n ≡ false = ne_eqb (suc (t % n)) n ne in
-    let lt : suc (t % n) < n = let m = mod-lt t h in grind arith in
-    rw b (suc-mod t n ∙ mod-eq_of_lt lt))
-    (cases_eq (suc (t % n)) n)
+next_mod t n h = grind (arith, nat_tests, suc-mod t n, mod_self n, mod-lt t h, mod-eq_of_lt)
 
 -- Mode 2.
 module _ (full : ℕ) (a : Access) (n : ℕ) (two : 2 ≤ n) where
   abbrev at2 : ℕ → Bool → Counter
   at2 s out = running full RateGenerator a n s (eqb (n % 2) 1) out
 
-  -- one clock above 1, and the one that loads
-  step2 : (s s' : ℕ) (u u' : Bool) → leb s 1 ≡ false → s - 1 ≡ s' → cond (eqb s 2) false u ≡ u' → stepped (at2 s u) (Clock true) ≡ at2 s' u'
-  step2 s s' u u' o p q = rw o (λ i. at2 (p i) (q i))
-
   within2 : (j : ℕ) → j < n → clocks j (at2 n true) ≡ at2 (n - j) (not (eqb (suc j) n))
-  within2 zero h =
-      let e : n ≡ n - zero = omega arith in
-      let f : true ≡ not (eqb 1 n) = grind (arith, nat_tests) in
-      λ i. at2 (e i) (f i)
-  within2 (suc j) h =
-      let o : leb (n - j) 1 ≡ false = grind (arith, nat_tests) in
-      let e : n - j - 1 ≡ n - suc j = omega arith in
-      let f : cond (eqb (n - j) 2) false (not (eqb (suc j) n)) ≡ not (eqb (suc (suc j)) n) = grind (arith, nat_tests) in
-      ap (λ d. stepped d (Clock true)) (within2 j (omega arith)) ∙ step2 (n - j) (n - suc j) (not (eqb (suc j) n)) (not (eqb (suc (suc j)) n)) o e f
+  within2 zero h = grind (arith, nat_tests)
+  within2 (suc j) h = grind (arith, nat_tests, within2 j)
 
   period2 : (k : ℕ) → suc k ≡ n → clocks (suc k) (at2 n true) ≡ at2 n true
-  period2 k e =
-      let o : leb (n - k) 1 ≡ true = grind (arith, nat_tests) in
-      ap (λ d. stepped d (Clock true)) (within2 k (omega arith)) ∙ rw o
+  period2 k e = grind (arith, nat_tests, within2 k)
 
   whole2 : clocks n (at2 n true) ≡ at2 n true
   whole2 = let e : suc (n - 1) ≡ n = omega arith in ap (λ k. clocks k (at2 n true)) (sym e) ∙ period2 (n - 1) e
 
   pub form2 : (t : ℕ) → (clocks (suc t) (waiting full RateGenerator a n)).out ≡ not (eqb (suc t % n) 0)
-  form2 t =
-      let e : clocks (suc t) (waiting full RateGenerator a n) ≡ clocks t (at2 n true) = after_load t (waiting full RateGenerator a n) in
-      let m : t % n < n = mod-lt t (omega arith) in
-      let f : not (eqb (suc (t % n)) n) ≡ not (eqb (cond (eqb (suc (t % n)) n) 0 (suc (t % n))) 0) = grind (arith, nat_tests) in
-      ap (λ d. d.out) (e ∙ (clocks_mod t n (at2 n true) whole2 ∙ within2 (t % n) m)) ∙ (f ∙ ap (λ k. not (eqb k 0)) (sym (next_mod t n (omega arith))))
+  form2 t = grind (arith, nat_tests, after_load t (waiting full RateGenerator a n), mod-lt, clocks_mod t n (at2 n true) whole2, within2 (t % n), next_mod t n)
 
 -- Mode 3: the first half of a period, rounded up, and the second.
 module _ (full : ℕ) (a : Access) (n : ℕ) (two : 2 ≤ n) where
@@ -146,41 +115,19 @@ module _ (full : ℕ) (a : Access) (n : ℕ) (two : 2 ≤ n) where
   abbrev load3 : ℕ
   load3 = n - n % 2
 
-  -- a clock above 2; the clock that an odd count waits; the clock that turns
-  down3 : (s s' : ℕ) (u : Bool) → ltb 2 s ≡ true → s - 2 ≡ s' → stepped (at3 s u) (Clock true) ≡ at3 s' u
-  down3 s s' u o p = rw o (ap (λ k. at3 k u) p)
-
-  wait3 : (s : ℕ) → ltb 2 s ≡ false → eqb (n % 2) 1 ≡ true → ltb 0 s ≡ true → stepped (at3 s true) (Clock true) ≡ at3 0 true
-  wait3 s o p q = rw (o, p, q)
-
-  turn3 : (s : ℕ) (u : Bool) → ltb 2 s ≡ false → (eqb (n % 2) 1 && u && ltb 0 s) ≡ false → stepped (at3 s u) (Clock true) ≡ at3 load3 (not u)
-  turn3 s u o p = rw (o, p)
-
   high3 : (j : ℕ) → j < (n + 1) / 2 → clocks j (at3 load3 true) ≡ at3 (load3 - 2 * j) true
-  high3 zero h = let e : load3 ≡ load3 - 2 * zero = omega arith in ap (λ s. at3 s true) e
-  high3 (suc j) h = ap (λ d. stepped d (Clock true)) (high3 j (omega arith)) ∙ ⊎_elim
-      (λ (lt : 2 < load3 - 2 * j). down3 (load3 - 2 * j) (load3 - 2 * suc j) true (lt-ltb 2 (load3 - 2 * j) lt) (omega arith))
-      (λ (ge : load3 - 2 * j ≤ 2).
-      let z : 0 ≡ load3 - 2 * suc j = omega arith in
-      let o : eqb (n % 2) 1 ≡ true = eq-eqb (n % 2) 1 (omega arith) in
-      wait3 (load3 - 2 * j) (le-ltb 2 (load3 - 2 * j) ge) o (lt-ltb 0 (load3 - 2 * j) (omega arith)) ∙ ap (λ s. at3 s true) z)
-      (cases_lt 2 (load3 - 2 * j))
+  high3 zero h = grind arith
+  high3 (suc j) h = grind (arith, nat_tests, high3 j)
 
   low3 : (j : ℕ) → j < n / 2 → clocks j (at3 load3 false) ≡ at3 (load3 - 2 * j) false
-  low3 zero h = let e : load3 ≡ load3 - 2 * zero = omega arith in ap (λ s. at3 s false) e
-  low3 (suc j) h =
-      ap (λ d. stepped d (Clock true)) (low3 j (omega arith))
-      ∙ down3 (load3 - 2 * j) (load3 - 2 * suc j) false (lt-ltb 2 (load3 - 2 * j) (omega arith)) (omega arith)
+  low3 zero h = grind arith
+  low3 (suc j) h = grind (arith, nat_tests, low3 j)
 
   end_high : (k : ℕ) → suc k ≡ (n + 1) / 2 → clocks (suc k) (at3 load3 true) ≡ at3 load3 false
-  end_high k e =
-      let o : (eqb (n % 2) 1 && true && ltb 0 (load3 - 2 * k)) ≡ false = grind (arith, nat_tests) in
-      ap (λ d. stepped d (Clock true)) (high3 k (omega arith)) ∙ turn3 (load3 - 2 * k) true (le-ltb 2 (load3 - 2 * k) (omega arith)) o
+  end_high k e = grind (arith, nat_tests, high3 k)
 
   end_low : (k : ℕ) → suc k ≡ n / 2 → clocks (suc k) (at3 load3 false) ≡ at3 load3 true
-  end_low k e =
-      let o : (eqb (n % 2) 1 && false && ltb 0 (load3 - 2 * k)) ≡ false = grind (arith, nat_tests) in
-      ap (λ d. stepped d (Clock true)) (low3 k (omega arith)) ∙ turn3 (load3 - 2 * k) false (le-ltb 2 (load3 - 2 * k) (omega arith)) o
+  end_low k e = grind (arith, nat_tests, low3 k)
 
   to_low : clocks ((n + 1) / 2) (at3 load3 true) ≡ at3 load3 false
   to_low = let e : suc ((n + 1) / 2 - 1) ≡ (n + 1) / 2 = omega arith in ap (λ k. clocks k (at3 load3 true)) (sym e) ∙ end_high ((n + 1) / 2 - 1) e
@@ -194,14 +141,7 @@ module _ (full : ℕ) (a : Access) (n : ℕ) (two : 2 ≤ n) where
       ap (λ k. clocks k (at3 load3 true)) e ∙ (clocks_add (n / 2) ((n + 1) / 2) (at3 load3 true) ∙ (ap (clocks (n / 2)) to_low ∙ to_high))
 
   by_half : (j : ℕ) → j < n → (clocks j (at3 load3 true)).out ≡ ltb j ((n + 1) / 2)
-  by_half j h = ⊎_elim
-      (λ (lt : j < (n + 1) / 2). let b : ltb j ((n + 1) / 2) ≡ true = lt-ltb j ((n + 1) / 2) lt in ap (λ d. d.out) (high3 j lt) ∙ sym b)
-      (λ (ge : (n + 1) / 2 ≤ j).
-      let b : ltb j ((n + 1) / 2) ≡ false = le-ltb j ((n + 1) / 2) ge in
-      let e : j ≡ (j - (n + 1) / 2) + (n + 1) / 2 = omega arith in
-      let c = ap (λ k. clocks k (at3 load3 true)) e ∙ (clocks_add (j - (n + 1) / 2) ((n + 1) / 2) (at3 load3 true) ∙ (ap (clocks (j - (n + 1) / 2)) to_low ∙ low3 (j - (n + 1) / 2) (omega arith))) in
-      ap (λ d. d.out) c ∙ sym b)
-      (cases_lt j ((n + 1) / 2))
+  by_half j h = grind (arith, nat_tests, high3 j, low3 (j - (n + 1) / 2), to_low, clocks_add (j - (n + 1) / 2) ((n + 1) / 2) (at3 load3 true))
 
   pub form3 : (t : ℕ) → (clocks (suc t) (waiting full SquareWave a n)).out ≡ ltb ((suc t - 1) % n) ((n + 1) / 2)
   form3 t =

@@ -37,6 +37,7 @@ pub struct Control {
 }
 
 // The sheet's number for a byte at port 0043.
+#[tactic(auto, using(crate::proofs::Entries::entry_is))]
 pub fn sheet_entry(byte: u8) -> u8
     ensures { result ≡ entry_of byte }
 {
