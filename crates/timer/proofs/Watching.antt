@@ -13,7 +13,7 @@ use Rattle.timer.specs.declared.sheet.CounterName.{CounterName}
 use Rattle.timer.specs.declared.sheet.CounterName.TheVariants.{System, Speaker}
 use Rattle.timer.specs.declared.timers.CountPort.TheVariants.{System as SystemPort, Speaker as SpeakerPort, Watchdog as WatchdogPort}
 use Rattle.timer.specs.declared.timers.Timers.{Timers}
-use Rattle.timer.specs.Counting.{stepped, written, less, after_read, turned, taken, out_at_byte, terminal, rate, square, counted, clocked}
+use Rattle.timer.specs.Counting.{stepped, written, less, after_read, taken, out_at_byte, terminal, rate, square, counted, clocked}
 use Rattle.timer.specs.Sheet.{control_of}
 use Rattle.timer.specs.Timing.{rises, followed, controlled_by, set_at, count_written, with_system, with_speaker}
 use Rattle.timer.specs.Watchdog.{Between, tick, acknowledgement, control, system_count, speaker_count, count_read_at, gate_put, performed, run, found, unanswered, Watches, WatchdogLaw}
@@ -91,12 +91,6 @@ taken_no_rise c b (Some n) = grind (arith, nat_tests, rises_same, at_byte_no_ris
 
 pub byte_no_rise : (c : Counter) (b : ℕ) → rises c.out (stepped c (Byte b)).out ≡ false
 byte_no_rise c b = grind (arith, nat_tests, taken_no_rise)
-
-abbrev with_read : Counter → Bool → Counter
-with_read c h = record { full = c.full; mode = c.mode; access = c.access; phase = c.phase; newest = c.newest; standing = c.standing; odd = c.odd; out = c.out; half = c.half; read_high = h }
-
-abbrev turned_read : Counter → Counter
-turned_read c = with_read c (turned c.access c.read_high)
 
 pub read_out : (c : Counter) → (after_read c).out ≡ c.out
 read_out c = grind (arith, nat_tests)

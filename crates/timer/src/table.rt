@@ -1,3 +1,4 @@
+// kept: a rule of the project needs the control sheet as a constant table of 256 numbers, with 0 where it lists none
 // For each byte 0 if it is not listed, else 1 + mode + 8 * bits 5-4 + 32 * counter.
 pub(crate) const SHEET: [u8; 256] = [
     0, 0, 0, 0, 0, 0, 0, 0, 0, 0, 0, 0, 0, 0, 0, 0, 9, 0, 0, 0, 11, 0, 12, 0, 0, 0, 0, 0, 0, 0, 0,
