@@ -1,5 +1,5 @@
 -- A journal word, most significant field first: kind 4 bits, channel 3, wide 1, last 1, level 4, zero 11, address 24, unit 16.
-use Rattle.std.specs.Prelude.{ℕ, ◌+◌, ◌*◌, ◌/◌, ◌%◌, ◌^◌, Bool, true, false, cond, not, ◌&&◌, Some, None, Ok, Err, Option, Result, ◌==◌, nat_le, nat_lt}
+use Rattle.std.specs.Prelude.{ℕ, ◌+◌, ◌*◌, ◌/◌, ◌%◌, ◌^◌, Bool, true, false, cond, not, ◌&&◌, Some, None, Ok, Err, Option, Result, ok_or, ◌==◌, nat_le, nat_lt}
 use Rattle.fault.specs.declared.Fault.{Fault}
 use Rattle.fault.specs.declared.Refusal.TheVariants.{NotALine}
 use Rattle.fault.specs.Numbers.{own}
@@ -21,6 +21,10 @@ numbered kind k others = cond (k == number_of_kind kind) (Some kind) others
 -- the kind of a number
 abbrev pub kind_of : ℕ → Option Kind
 kind_of k = numbered CardToMemory k (numbered MemoryToCard k (numbered Verify k (numbered Store k None)))
+
+-- the kind of a number, or the refusal of a number that no kind has
+abbrev pub kind_read : ℕ → Result Kind Fault
+kind_read k = ok_or (kind_of k) (own NotALine k)
 
 -- what a line of each kind keeps to, besides its fields' widths
 abbrev pub suits : Kind → Line → Bool

@@ -3,7 +3,7 @@
 ghost use Rattle.std.specs.Prelude.{◌≡◌, ◌<◌, true, false, IfOk, Ok};
 ghost use Rattle.fault.specs.declared.Refusal.TheVariants.{NotALine};
 ghost use Rattle.fault.specs.Numbers.{own};
-ghost use Rattle.journal.specs.Layout.{number_of_kind, kind_of, suits, listed, word as layout, packed, fields, line_of, unpacked};
+ghost use Rattle.journal.specs.Layout.{number_of_kind, kind_read, suits, listed, word as layout, packed, fields, unpacked};
 ghost use Rattle.journal.specs.Room.{full};
 
 use fault::{Fault, Refusal};
@@ -13,7 +13,7 @@ mod lookup;
 pub use lookup::find_writer;
 
 // What a line tells of.
-#[derive(Clone, Copy)]
+#[derive(Clone, Copy, Debug, PartialEq, Eq)]
 pub enum Kind {
     CardToMemory,
     MemoryToCard,
@@ -23,33 +23,37 @@ pub enum Kind {
     Store,
 }
 
-impl Kind {
-    pub fn number(self) -> u8
-        ensures { result ≡ number_of_kind self }
-    {
-        match self {
+impl From<Kind> for u8 {
+    ghost from_gives = { λ kind n. n ≡ number_of_kind kind };
+
+    fn from(kind: Kind) -> u8 {
+        match kind {
             Kind::CardToMemory => 1,
             Kind::MemoryToCard => 2,
             Kind::Verify => 3,
             Kind::Store => 4,
         }
     }
+}
 
-    pub fn from_number(n: u8) -> Option<Kind>
-        ensures { result ≡ kind_of n }
-    {
+impl TryFrom<u8> for Kind {
+    type Error = Fault;
+
+    ghost try_from_gives = { λ n kind. kind ≡ kind_read n };
+
+    fn try_from(n: u8) -> Result<Kind, Fault> {
         match n {
-            1 => Some(Kind::CardToMemory),
-            2 => Some(Kind::MemoryToCard),
-            3 => Some(Kind::Verify),
-            4 => Some(Kind::Store),
-            _ => None,
+            1 => Ok(Kind::CardToMemory),
+            2 => Ok(Kind::MemoryToCard),
+            3 => Ok(Kind::Verify),
+            4 => Ok(Kind::Store),
+            _ => Err(not_a_line(n)),
         }
     }
 }
 
 // One line of the journal.
-#[derive(Clone, Copy)]
+#[derive(Clone, Copy, Debug, PartialEq, Eq)]
 pub struct Line {
     pub kind: Kind,
     pub channel: u8,
@@ -81,7 +85,7 @@ impl Line {
         let limit = if self.wide { 0x1_0000 } else { 0x100 };
         self.channel <= 7
             && self.address < 0x100_0000
-            && (self.unit as u32) < limit
+            && u32::from(self.unit) < limit
             && self.suits_kind()
     }
 
@@ -90,14 +94,16 @@ impl Line {
         requires { listed self.now ≡ true }
         ensures { result ≡ layout self.now }
     {
-        let head = ((self.kind.number() as u64) << 60) + ((self.channel as u64) << 57);
-        let marks = ((self.wide as u64) << 56)
-            + ((self.last as u64) << 55)
-            + ((self.level as u64) << 51);
-        head + marks + ((self.address as u64) << 16) + self.unit as u64
+        let head = (u64::from(u8::from(self.kind)) << 60) + (u64::from(self.channel) << 57);
+        let marks = (u64::from(self.wide) << 56)
+            + (u64::from(self.last) << 55)
+            + (u64::from(self.level) << 51);
+        head + marks + (u64::from(self.address) << 16) + u64::from(self.unit)
     }
 
     // The line as a word.
+    // kept: as conversions pack and unpack would state their laws in one ghost member, without their names.
+    #[tactic(auto, using(crate::proofs::Codec::reads_back))]
     pub fn pack(&self) -> Result<u64, Fault>
         ensures answer { result ≡ packed self.now }
         ensures reads_back { IfOk result (λ w. unpacked w ≡ Ok self.now) }
@@ -105,7 +111,7 @@ impl Line {
         if self.is_listed() {
             Ok(self.to_word())
         } else {
-            Err(not_a_line(self.kind.number()))
+            Err(not_a_line(self.kind.into()))
         }
     }
 
@@ -124,28 +130,18 @@ impl Line {
         }
     }
 
-    // The line in the word, if it holds one.
-    fn from_word(word: u64) -> Option<Line>
-        ensures { result ≡ line_of word }
-    {
-        let kind = Kind::from_number((word >> 60) as u8)?;
-        let line = Line::from_fields(kind, word);
-        if (word >> 40) % 0x800 == 0 && line.is_listed() {
-            Some(line)
-        } else {
-            None
-        }
-    }
-
     // The line that packs to the word.
     pub fn unpack(word: u64) -> Result<Line, Fault>
         ensures answer { result ≡ unpacked word }
         ensures packs_back { IfOk result (λ l. packed l ≡ Ok word) }
         ensures accepted { (l : Line) → packed l ≡ Ok word → result ≡ Ok l }
     {
-        match Line::from_word(word) {
-            Some(line) => Ok(line),
-            None => Err(not_a_line((word >> 60) as u8)),
+        let number = (word >> 60) as u8;
+        let line = Line::from_fields(Kind::try_from(number)?, word);
+        if (word >> 40) % 0x800 == 0 && line.is_listed() {
+            Ok(line)
+        } else {
+            Err(not_a_line(number))
         }
     }
 }
@@ -153,7 +149,7 @@ impl Line {
 fn not_a_line(kind: u8) -> Fault
     ensures { result ≡ own NotALine kind }
 {
-    Fault::own(Refusal::NotALine, kind as u32)
+    Fault::own(Refusal::NotALine, u32::from(kind))
 }
 
 // Whether a journal of this length, with so many lines put down, has no room for one more.
