@@ -8,10 +8,7 @@ impl Kind {
     fn writes_memory(self) -> bool
         ensures { result ≡ writes self }
     {
-        match self {
-            Kind::CardToMemory | Kind::Store => true,
-            Kind::MemoryToCard | Kind::Verify => false,
-        }
+        matches!(self, Kind::CardToMemory | Kind::Store)
     }
 }
 
@@ -32,10 +29,7 @@ fn wrote(word: u64, address: u32) -> bool
     if field != address && (field + 1) % 0x100_0000 != address {
         return false;
     }
-    match Line::unpack(word) {
-        Ok(line) => line.kind.writes_memory() && line.reaches_address(address),
-        Err(_) => false,
-    }
+    Line::unpack(word).is_ok_and(|line| line.kind.writes_memory() && line.reaches_address(address))
 }
 
 // The place of a word that wrote the address.
@@ -45,10 +39,8 @@ pub fn find_writer(words: &[u64], address: u32) -> Result<usize, Fault>
     if address >= 0x100_0000 {
         return Err(Fault::own(Refusal::TooLarge, address));
     }
-    for (place, word) in words.iter().enumerate() {
-        if wrote(*word, address) {
-            return Ok(place);
-        }
-    }
-    Err(Fault::own(Refusal::NoWriter, address))
+    words
+        .iter()
+        .position(|word| wrote(*word, address))
+        .ok_or(Fault::own(Refusal::NoWriter, address))
 }
