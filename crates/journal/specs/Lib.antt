@@ -1,3 +1,4 @@
 pub mod Layout
 pub mod Room
 pub mod Lookup
+pub mod Text

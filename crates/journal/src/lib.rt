@@ -1,12 +1,14 @@
 #![tactic(auto)]
 
-ghost use Rattle.std.specs.Prelude.{◌≡◌, ◌<◌, true, false, IfOk, Ok};
+ghost use Rattle.std.specs.Prelude.{◌≡◌, ◌<◌, true, false, IfOk, Ok, Some};
 ghost use Rattle.fault.specs.declared.Refusal.TheVariants.{NotALine};
 ghost use Rattle.fault.specs.Numbers.{own};
 ghost use Rattle.journal.specs.Layout.{number_of_kind, kind_read, suits, listed, word as layout, packed, fields, unpacked};
 ghost use Rattle.journal.specs.Room.{full};
+ghost use Rattle.journal.specs.Text.{line_text};
 
 use fault::{Fault, Refusal};
+use std::fmt;
 
 mod lookup;
 
@@ -143,6 +145,22 @@ impl Line {
         } else {
             Err(not_a_line(number))
         }
+    }
+}
+
+// The fields by name: numbers decimal, address and unit hexadecimal.
+impl fmt::Display for Line {
+    ghost output = { λ line. Some (line_text line) };
+
+    fn fmt<W: fmt::Write>(&self, f: &mut fmt::Formatter<W>) -> fmt::Result {
+        let kind = u8::from(self.kind);
+        let wide = u8::from(self.wide);
+        let last = u8::from(self.last);
+        write!(
+            f,
+            "kind {kind} channel {} wide {wide} last {last} level {} address {:06X} unit {:04X}",
+            self.channel, self.level, self.address, self.unit
+        )
     }
 }
 
