@@ -1,11 +1,11 @@
-ghost use Rattle.std.specs.Prelude.{◌≡◌, ℕ, ◌+◌};
-ghost use Rattle.accounts.specs.Kinds.{Below, no_lines, with_word, tallied};
+ghost use Rattle.std.specs.Prelude.{◌≡◌};
+ghost use Rattle.accounts.specs.Kinds.{IsBelow, with_line, tallied};
 
-use crate::{LIMIT, first_words};
+use crate::lines::{Count, count_lines};
 use journal::{Kind, Line};
 
 // The lines of a journal by kind.
-#[derive(Clone, Copy)]
+#[derive(Clone, Copy, Debug, Default, PartialEq, Eq)]
 pub struct Totals {
     pub to_memory: u32,
     pub to_card: u32,
@@ -13,27 +13,14 @@ pub struct Totals {
     pub stores: u32,
 }
 
-impl Totals {
-    fn none() -> Totals
-        ensures { result ≡ no_lines }
-    {
-        Totals {
-            to_memory: 0,
-            to_card: 0,
-            verify: 0,
-            stores: 0,
-        }
-    }
+impl Count for Totals {
+    type Of = ();
 
-    // Counts the line of a word.
-    fn add(&mut self, word: u64)
-        requires { Below self.old 65536 }
-        ensures after { self.new ≡ with_word self.old word }
-        ensures below { (n : ℕ) → Below self.old n → Below self.new (n + 1) }
-    {
-        let Ok(line) = Line::unpack(word) else {
-            return;
-        };
+    ghost with_line = { λ _ t l. with_line t l };
+
+    ghost Below = { IsBelow };
+
+    fn count(&mut self, line: Line, _of: ()) {
         match line.kind {
             Kind::CardToMemory => self.to_memory += 1,
             Kind::MemoryToCard => self.to_card += 1,
@@ -47,9 +34,5 @@ impl Totals {
 pub fn tally(words: &[u64]) -> Totals
     ensures { result ≡ tallied words.now }
 {
-    let mut totals = Totals::none();
-    for word in first_words(words, LIMIT) {
-        totals.add(*word);
-    }
-    totals
+    count_lines(words, Totals::default(), ())
 }

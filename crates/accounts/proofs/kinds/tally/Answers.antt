@@ -1,19 +1,11 @@
-use Rattle.std.proofs.Common.{◌+◌, get_or, fold, sym, ap, ◌∙◌}
-use Rattle.std.proofs.lemmas.List.{take_all}
-use Rattle.std.proofs.lemmas.List.Sums.{fold_more}
-use Rattle.accounts.specs.Kinds.{no_lines, with_word}
+use Rattle.std.proofs.Common.{◌≡◌, ap, ◌∙◌}
+use Rattle.accounts.specs.declared.kinds.Totals.{Totals}
+use Rattle.accounts.specs.Lines.{counted}
+use Rattle.accounts.specs.Kinds.{no_lines, with_line}
 use Rattle.accounts.proofs.kinds.tally.Goals as goal
-
-pub loop-word-preserved : goal.loop-word-preserved
-loop-word-preserved c =
-    let xs = c.first_words-word-items.result.now in
-    let i = c.loop-word.word-index in
-    let counted = ap (λ t. with_word t (get_or xs i 0)) c.loop-word.invariant.0 in
-    let more = fold_more with_word no_lines xs i 0 c.loop-word-test.true in
-    (c.add.ensures.after ∙ (counted ∙ sym more), c.add.ensures.below (i + 1) c.loop-word.invariant.1)
 
 pub returns : goal.returns
 returns c =
-    let xs = c.first_words-word-items.result.now in
-    let whole = take_all c.loop-word.word-index xs c.loop-word-test.false in
-    c.loop-word.invariant.0 ∙ ap (fold with_word no_lines) (whole ∙ c.first_words-word-items.ensures.words)
+    let h = c.default.ensures in
+    let none : c.default.result ≡ no_lines = λ i. record { to_memory = h.0 i; to_card = h.1.0 i; verify = h.1.1.0 i; stores = h.1.1.1 i } in
+    c.count_lines.ensures ∙ ap (λ (t : Totals). counted with_line t c.args.words.now) none
