@@ -14,5 +14,5 @@ abbrev pub with_word : {T : Type 0} → (T → Line → T) → T → ℕ → T
 with_word with_line t w = with_reading with_line t (unpacked w)
 
 -- the lines of the first 65,536 words, from totals of none on
-abbrev pub counted : {T : Type 0} → (T → Line → T) → T → List ℕ → T
+unfoldable pub counted : {T : Type 0} → (T → Line → T) → T → List ℕ → T
 counted with_line none ws = fold (with_word with_line) none (take 65536 ws)

@@ -26,6 +26,7 @@ pub trait Count {
 }
 
 // The totals with the lines of the first 65,536 words, passing over what is no line.
+#[tactic(auto, unfolding(crate::specs::Lines::counted))]
 pub fn count_lines<T: Count + Drop>(words: &[u64], none: T, of: T::Of) -> T
     requires { (n : ℕ) → 0 < n → T.Below none n }
     ensures { result ≡ counted (T.with_line of) none words.now }
