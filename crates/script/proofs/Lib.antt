@@ -1,3 +1,2 @@
 mod Numerals
-mod Among
-mod Limits
+mod Blanks

@@ -1,5 +1,5 @@
 -- The entries of a script: their names, their operands, and what a line reads as.
-use Rattle.std.specs.Prelude.{ℕ, ◌^◌, ◌<◌, ◌≤◌, Bool, true, false, cond, not, ◌&&◌, ◌||◌, List, [], ◌∷◌, length, Some, None, Ok, Err, codes, Option, Result, ◌==◌}
+use Rattle.std.specs.Prelude.{ℕ, ◌^◌, ◌<◌, ◌≤◌, Bool, true, false, cond, not, ◌&&◌, ◌||◌, List, [], ◌∷◌, length, Some, None, Ok, Err, codes, Option, Result, ok_or, unwrap_or, ◌==◌}
 use Rattle.std.specs.Str.{bytes_eq}
 use Rattle.script.specs.declared.number.Base.{Base}
 use Rattle.script.specs.declared.number.Base.TheVariants.{Decimal, Hexadecimal}
@@ -46,6 +46,10 @@ name_among (n ∷ ns) t = cond (bytes_eq t (text_of n)) (Some n) (name_among ns 
 -- the name that a text is
 abbrev pub name_of : List ℕ → Option Name
 name_of t = name_among every t
+
+-- the name that a text is, or else why the line is no entry
+abbrev pub named : List ℕ → Result Name Misread
+named t = ok_or (name_of t) UnknownEntry
 
 -- an operand that has to be there
 abbrev pub required : Base → ℕ → Option Operand
@@ -97,6 +101,11 @@ second_of name.Lines = None
 abbrev pub limit_of : Option Operand → ℕ
 limit_of None = 0
 limit_of (Some o) = o.limit
+
+-- what an operand is without its word keeps its limit
+abbrev pub AbsentWithin : Option Operand → Type 0
+AbsentWithin None = Unit {0}
+AbsentWithin (Some o) = unwrap_or o.absent 0 ≤ o.limit
 
 -- the entry of a name with its operands
 abbrev pub built : Name → ℕ → ℕ → Entry
@@ -157,9 +166,9 @@ entry_of n a b more =
     (entry_with n (operand_value (first_of n) a) (operand_value (second_of n) b)))
 
 -- the entry of a name, if it is one, and the words of a text
-abbrev pub entry_called : Option Name → List ℕ → Result Entry Misread
-entry_called None rest = Err UnknownEntry
-entry_called (Some n) rest = entry_of n (first_word rest) (first_word (after_word rest)) (first_word (after_word (after_word rest)))
+abbrev pub entry_called : Result Name Misread → List ℕ → Result Entry Misread
+entry_called (Err why) rest = Err why
+entry_called (Ok n) rest = entry_of n (first_word rest) (first_word (after_word rest)) (first_word (after_word (after_word rest)))
 
 -- an entry that was read, as one of the lines that may have none
 abbrev pub some_read : Result Entry Misread → Result (Option Entry) Misread
@@ -168,7 +177,7 @@ some_read (Err why) = Err why
 
 -- what a text without a comment reads as; one with no word is no entry
 abbrev pub plain_reading : List ℕ → Result (Option Entry) Misread
-plain_reading t = cond (is_empty (first_word t)) (Ok None) (some_read (entry_called (name_of (first_word t)) (after_word t)))
+plain_reading t = cond (is_empty (first_word t)) (Ok None) (some_read (entry_called (named (first_word t)) (after_word t)))
 
 -- what a line reads as
 abbrev pub reading : List ℕ → Result (Option Entry) Misread

@@ -10,7 +10,8 @@ impl Name {
     fn build(self, first: u32, second: u32) -> Entry
         requires first_bound { first ≤ limit_of (first_of self) }
         requires second_bound { second ≤ limit_of (second_of self) }
-        ensures { result ≡ built self first second }
+        ensures entry { result ≡ built self first second }
+        ensures within { Within result }
     {
         match self {
             Name::Memory => Entry::Memory(first),
@@ -35,7 +36,7 @@ impl Name {
     }
 
     // The entry of the words that follow the name; a word that is not there is empty.
-    pub(crate) fn read(self, first: &[u8], second: &[u8], more: &[u8]) -> Result<Entry, Misread>
+    pub(crate) fn read(self, first: &str, second: &str, more: &str) -> Result<Entry, Misread>
         ensures answer { result ≡ entry_of self first.now second.now more.now }
         ensures within { IfOk result Within }
     {
@@ -46,9 +47,8 @@ impl Name {
         if is_surplus(one, first) || is_surplus(two, second) || !more.is_empty() {
             return Err(Misread::TooManyWords);
         }
-        match (read_operand(one, first), read_operand(two, second)) {
-            (Some(first), Some(second)) => Ok(self.build(first, second)),
-            _ => Err(Misread::BadNumber),
-        }
+        let first = read_operand(one, first).ok_or(Misread::BadNumber)?;
+        let second = read_operand(two, second).ok_or(Misread::BadNumber)?;
+        Ok(self.build(first, second))
     }
 }

@@ -1,9 +1,11 @@
 #![tactic(auto)]
 
-ghost use Rattle.std.specs.Prelude.{◌≡◌, IfOk};
+ghost use Rattle.std.specs.Prelude.{◌≡◌, IfOk, Some};
 ghost use Rattle.script.specs.Entries.{reading, WithinLine, is_rig_entry, told};
 
 use names::Name;
+use std::error::Error;
+use std::fmt;
 use words::{cut_comment, next_word};
 
 mod build;
@@ -40,7 +42,7 @@ pub enum Entry {
 }
 
 // Why a line is no entry.
-#[derive(Clone, Copy)]
+#[derive(Clone, Copy, Debug, PartialEq, Eq)]
 pub enum Misread {
     UnknownEntry,
     TooFewWords,
@@ -48,50 +50,47 @@ pub enum Misread {
     BadNumber,
 }
 
-impl Misread {
-    pub fn text(self) -> &'static str
-        ensures { result.now ≡ told self }
-    {
-        match self {
+impl fmt::Display for Misread {
+    ghost output = { λ misread. Some (told misread) };
+
+    fn fmt<W: fmt::Write>(&self, f: &mut fmt::Formatter<W>) -> fmt::Result {
+        f.write_str(match self {
             Misread::UnknownEntry => "unknown entry",
             Misread::TooFewWords => "too few words",
             Misread::TooManyWords => "too many words",
             Misread::BadNumber => "a number that does not fit",
-        }
+        })
     }
 }
+
+impl Error for Misread {}
 
 // The entry of a line, if it has one.
 pub fn read_entry(line: &str) -> Result<Option<Entry>, Misread>
     ensures answer { result ≡ reading line.now }
     ensures within { IfOk result WithinLine }
 {
-    let (name, rest) = next_word(cut_comment(line.as_bytes()));
+    let (name, rest) = next_word(cut_comment(line));
     if name.is_empty() {
         return Ok(None);
     }
-    let Some(name) = Name::from_text(name) else {
-        return Err(Misread::UnknownEntry);
-    };
+    let name = name.parse::<Name>()?;
     let (first, rest) = next_word(rest);
     let (second, rest) = next_word(rest);
     let (more, _) = next_word(rest);
-    match name.read(first, second, more) {
-        Ok(entry) => Ok(Some(entry)),
-        Err(misread) => Err(misread),
-    }
+    name.read(first, second, more).map(Some)
 }
 
 // Whether the entry lays out the board before the first call.
 pub fn is_rig(entry: Entry) -> bool
     ensures { result ≡ is_rig_entry entry }
 {
-    match entry {
+    matches!(
+        entry,
         Entry::Memory(_)
-        | Entry::Protect(_, _)
-        | Entry::Scale(_)
-        | Entry::Printer(_)
-        | Entry::Journal(_) => true,
-        _ => false,
-    }
+            | Entry::Protect(_, _)
+            | Entry::Scale(_)
+            | Entry::Printer(_)
+            | Entry::Journal(_)
+    )
 }

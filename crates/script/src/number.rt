@@ -1,5 +1,5 @@
-ghost use Rattle.std.specs.Prelude.{◌≡◌, ◌≤◌, IfSome};
-ghost use Rattle.script.specs.Number.{radix, digit_of, grown, numeral};
+ghost use Rattle.std.specs.Prelude.{◌≡◌, ◌≤◌, IfSome, Some};
+ghost use Rattle.script.specs.Number.{radix, digit_of, grown, numeral_after, numeral};
 
 // The base that a number is written in.
 #[derive(Clone, Copy)]
@@ -9,7 +9,7 @@ pub enum Base {
 }
 
 impl Base {
-    fn radix(self) -> u64
+    fn radix(self) -> u32
         ensures { result ≡ radix self }
     {
         match self {
@@ -18,15 +18,10 @@ impl Base {
         }
     }
 
-    fn digit(self, byte: u8) -> Option<u8>
+    fn digit(self, byte: u8) -> Option<u32>
         ensures { result ≡ digit_of self byte }
     {
-        match (self, byte) {
-            (_, b'0'..=b'9') => Some(byte - b'0'),
-            (Base::Hexadecimal, b'A'..=b'F') => Some(byte - b'A' + 10),
-            (Base::Hexadecimal, b'a'..=b'f') => Some(byte - b'a' + 10),
-            _ => None,
-        }
+        char::from(byte).to_digit(self.radix())
     }
 
     // The number with one digit more, while it keeps the limit.
@@ -34,28 +29,19 @@ impl Base {
         ensures { result ≡ grown self limit number (digit_of self byte) }
     {
         let digit = self.digit(byte)?;
-        let longer = number as u64 * self.radix() + digit as u64;
-        if longer <= limit as u64 {
-            Some(longer as u32)
-        } else {
-            None
-        }
+        let longer = number.checked_mul(self.radix())?.checked_add(digit)?;
+        (longer <= limit).then_some(longer)
     }
-}
 
-// The number that the bytes of a text write.
-pub(crate) fn read_bytes(bytes: &[u8], base: Base, limit: u32) -> Option<u32>
-    ensures answer { result ≡ numeral base limit bytes.now }
-    ensures bound { IfSome result (λ n. n ≤ limit) }
-{
-    if bytes.is_empty() {
-        return None;
+    // What the digits of a text make of 0.
+    fn grow_by(self, limit: u32, digits: &str) -> Option<u32>
+        ensures answer { result ≡ numeral_after self limit (Some 0) digits.now }
+        ensures bound { IfSome result (λ n. n ≤ limit) }
+    {
+        digits
+            .bytes()
+            .try_fold(0, |number, byte| self.grow(limit, number, byte))
     }
-    let mut number = 0;
-    for byte in bytes {
-        number = base.grow(limit, number, *byte)?;
-    }
-    Some(number)
 }
 
 // The number that a text writes.
@@ -63,5 +49,8 @@ pub fn read_number(digits: &str, base: Base, limit: u32) -> Option<u32>
     ensures answer { result ≡ numeral base limit digits.now }
     ensures bound { IfSome result (λ n. n ≤ limit) }
 {
-    read_bytes(digits.as_bytes(), base, limit)
+    if digits.is_empty() {
+        return None;
+    }
+    base.grow_by(limit, digits)
 }

@@ -1,8 +1,8 @@
-ghost use Rattle.std.specs.Prelude.{◌≡◌};
-ghost use Rattle.script.specs.Entries.{required as needed, first_of, second_of, lacks, exceeds, operand_value};
+ghost use Rattle.std.specs.Prelude.{◌≡◌, ◌≤◌, IfSome};
+ghost use Rattle.script.specs.Entries.{required as needed, first_of, second_of, lacks, exceeds, operand_value, limit_of, AbsentWithin};
 
 use super::names::Name;
-use super::number::{Base, read_bytes};
+use super::number::{Base, read_number};
 
 // How an operand is written.
 #[derive(Clone, Copy)]
@@ -15,7 +15,8 @@ pub(crate) struct Operand {
 
 impl Name {
     pub(crate) fn first_operand(self) -> Option<Operand>
-        ensures { result ≡ first_of self }
+        ensures operand { result ≡ first_of self }
+        ensures absent { AbsentWithin result }
     {
         match self {
             Name::Memory => required(Base::Decimal, 0x100_0000),
@@ -39,7 +40,8 @@ impl Name {
     }
 
     pub(crate) fn second_operand(self) -> Option<Operand>
-        ensures { result ≡ second_of self }
+        ensures operand { result ≡ second_of self }
+        ensures absent { AbsentWithin result }
     {
         match self {
             Name::Protect => required(Base::Hexadecimal, 0xffff_ffff),
@@ -62,29 +64,27 @@ fn required(base: Base, limit: u32) -> Option<Operand>
 }
 
 // Whether the operand's word has to be there and is not.
-pub(crate) fn is_lacking(operand: Option<Operand>, word: &[u8]) -> bool
+pub(crate) fn is_lacking(operand: Option<Operand>, word: &str) -> bool
     ensures { result ≡ lacks operand word.now }
 {
-    match operand {
-        Some(taken) => taken.absent.is_none() && word.is_empty(),
-        None => false,
-    }
+    operand.is_some_and(|taken| taken.absent.is_none() && word.is_empty())
 }
 
 // Whether there is a word and no operand to take it.
-pub(crate) fn is_surplus(operand: Option<Operand>, word: &[u8]) -> bool
+pub(crate) fn is_surplus(operand: Option<Operand>, word: &str) -> bool
     ensures { result ≡ exceeds operand word.now }
 {
     operand.is_none() && !word.is_empty()
 }
 
 // The number that the word gives for the operand.
-pub(crate) fn read_operand(operand: Option<Operand>, word: &[u8]) -> Option<u32>
-    ensures { result ≡ operand_value operand word.now }
+pub(crate) fn read_operand(operand: Option<Operand>, word: &str) -> Option<u32>
+    ensures value { result ≡ operand_value operand word.now }
+    ensures within { AbsentWithin operand → IfSome result (λ n. n ≤ limit_of operand) }
 {
     match operand {
         Some(taken) if word.is_empty() => taken.absent,
-        Some(taken) => read_bytes(word, taken.base, taken.limit),
+        Some(taken) => read_number(word, taken.base, taken.limit),
         None => Some(0),
     }
 }

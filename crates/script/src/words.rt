@@ -1,55 +1,38 @@
-ghost use Rattle.std.specs.Prelude.{◌≡◌, ◌≤◌, length};
+ghost use Rattle.std.specs.Prelude.{◌≡◌};
 ghost use Rattle.std.specs.List.{prefix_len};
-ghost use Rattle.script.specs.Words.{has, before_comment, first_word, after_word};
+ghost use Rattle.std.specs.Str.{IsCharBoundary};
+ghost use Rattle.script.specs.Words.{is_dark, from_word, before_comment, first_word, after_word};
 
-// The bytes that a part of a line goes on over.
-#[derive(Clone, Copy)]
-pub(crate) enum Class {
-    Blank,
-    // no blank
-    Dark,
-    // no start of a comment
-    Plain,
-}
-
-impl Class {
-    fn has(self, byte: u8) -> bool
-        ensures { result ≡ has self byte }
-    {
-        let blank = byte == b' ' || byte == b'\t' || byte == b'\r';
-        match self {
-            Class::Blank => blank,
-            Class::Dark => !blank,
-            Class::Plain => byte != b'#',
-        }
-    }
-}
-
-// How many bytes at the front are of the class.
-fn count_front(text: &[u8], class: Class) -> usize
-    ensures answer { result ≡ prefix_len (has class) text.now }
-    ensures within { result ≤ length text.now }
-{
-    for (place, byte) in text.iter().enumerate() {
-        if !class.has(*byte) {
-            return place;
-        }
-    }
-    text.len()
-}
+// What parts the words of a line.
+const BLANKS: [char; 3] = [' ', '\t', '\r'];
 
 // The line up to its comment.
-pub(crate) fn cut_comment(line: &[u8]) -> &[u8]
+pub(crate) fn cut_comment(line: &str) -> &str
     ensures { result.now ≡ before_comment line.now }
 {
-    line.split_at(count_front(line, Class::Plain)).0
+    line.split_once('#').map_or(line, |(plain, _)| plain)
+}
+
+// The text from its first word on.
+fn skip_blanks(text: &str) -> &str
+    ensures { result.now ≡ from_word text.now }
+{
+    text.trim_start_matches(BLANKS)
+}
+
+// How many bytes the word has that the text begins with.
+fn word_len(text: &str) -> usize
+    ensures len { result ≡ prefix_len is_dark text.now }
+    ensures boundary { IsCharBoundary text.now result }
+{
+    text.find(BLANKS).unwrap_or(text.len())
 }
 
 // The first word, empty where there is none, and what follows it.
-pub(crate) fn next_word(text: &[u8]) -> (&[u8], &[u8])
+pub(crate) fn next_word(text: &str) -> (&str, &str)
     ensures word { result.0.now ≡ first_word text.now }
     ensures rest { result.1.now ≡ after_word text.now }
 {
-    let (_, from_word) = text.split_at(count_front(text, Class::Blank));
-    from_word.split_at(count_front(from_word, Class::Dark))
+    let text = skip_blanks(text);
+    text.split_at(word_len(text))
 }

@@ -1,0 +1,5 @@
+use Rattle.script.proofs.Blanks.{trimmed}
+use Rattle.script.proofs.words.skip_blanks.Goals as goal
+
+pub returns : goal.returns
+returns c = trimmed _ _ c.trim_start_matches.ensures.matches
