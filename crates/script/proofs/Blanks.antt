@@ -1,17 +1,18 @@
 -- What the methods of `str` find at blanks, in the words of specs.
-use Rattle.std.proofs.Common.{◌≡◌, ℕ, ◌<◌, ◌≤◌, ◌+◌, Bool, true, false, cond, List, [], ◌∷◌, ◌++◌, length, get_or, take, drop, Some, None, Option, MatchOption, IfSome, sym, ap, subst, ◌∙◌, refl, length-take, add_comm, add-one, ⊎_elim, arith}
+use Rattle.std.proofs.Common.{◌≡◌, ℕ, ◌<◌, ◌≤◌, Bool, true, false, List, [], ◌∷◌, ◌++◌, length, get_or, take, drop, Some, None, Option, MatchOption, IfSome, sym, ap, subst, ◌∙◌, refl, length-take, ⊎_elim, arith}
 use Rattle.std.specs.Option.{unwrap_or}
-use Rattle.std.specs.List.{prefix_len}
+use Rattle.std.specs.List.{position_or_len}
 use Rattle.std.specs.Char.{IsScalar, char_set_contains}
 use Rattle.std.specs.Str.{NoCharPasses}
 use Rattle.std.specs.Str.Pattern.{FindsBy, FindsPrefixBy, CutsPrefixes, IsTrimStartMatches, MatchBeginsAt}
-use Rattle.std.proofs.lemmas.Bool.{cases_lt, true≢false}
+use Rattle.std.proofs.lemmas.Bool.{cases_lt}
 use Rattle.std.proofs.lemmas.Bool.Decides.{nat_tests}
+use Rattle.std.proofs.lemmas.Grind.{common_steps}
 use Rattle.std.proofs.lemmas.List.{get_or-take}
 use Rattle.std.proofs.lemmas.List.Sums.{position_or_len_is}
 use Rattle.std.proofs.lemmas.Str.{NoCharPasses-byte, encode_ascii, len_utf8_bounds}
 use Rattle.std.proofs.lemmas.Str.Pattern.{drop_at_char}
-use Rattle.script.specs.Words.{is_blank, is_dark, from_word}
+use Rattle.script.specs.Words.{is_blank, from_word}
 
 -- k tells the characters of the list of blanks
 abbrev pub TellsBlanks : (ℕ → Bool) → Type 0
@@ -40,7 +41,7 @@ none_blank : (s : List ℕ) (i : ℕ) → NoCharPasses is_blank s → i < length
 none_blank s i h l = ⊎_elim (NoCharPasses-byte is_blank s i h l) (high (get_or s i 0)) (cases_lt (get_or s i 0) 128)
 
 -- `find` gives the length of the word that a text begins with
-pub word_ends : (s : List ℕ) (r : Option ℕ) → MatchOption r (Finds s None) (MatchBeginsAt Finds s) → unwrap_or r (length s) ≡ prefix_len is_dark s
+pub word_ends : (s : List ℕ) (r : Option ℕ) → MatchOption r (Finds s None) (MatchBeginsAt Finds s) → unwrap_or r (length s) ≡ position_or_len is_blank s
 word_ends s None h =
     sym (position_or_len_is is_blank s (length s) 0 (omega arith) (λ k l. none_blank s k (h is_blank blanks) l) (λ l. absurd (omega arith)))
 word_ends s (Some i) (j, f, on, starts, ends) =
@@ -51,11 +52,8 @@ word_ends s (Some i) (j, f, on, starts, ends) =
     (λ k l. let e : get_or (take i s) k 0 ≡ get_or s k 0 = get_or-take i s k 0 l in subst (λ b. is_blank b ≡ false) e (none_blank (take i s) k before (omega (arith, length-take i s))))
     (λ l. ap is_blank here ∙ passes))
 
-one_more : (n c : ℕ) (cs : List ℕ) → drop (1 + n) (c ∷ cs) ≡ drop n cs
-one_more n c cs = rw (add_comm 1 n, add-one) refl
-
 begins_blank : (c : ℕ) (cs : List ℕ) → is_blank c ≡ true → from_word (c ∷ cs) ≡ from_word cs
-begins_blank c cs h = ap (λ b. drop (cond b (1 + prefix_len is_blank cs) 0) (c ∷ cs)) h ∙ one_more (prefix_len is_blank cs) c cs
+begins_blank c cs h = grind (arith, common_steps)
 
 cut_one : (s : List ℕ) (n : ℕ) → Begins s (Some n) → from_word s ≡ from_word (drop n s)
 cut_one s n b =
@@ -66,14 +64,11 @@ cut_all : (s : List ℕ) (ns : List ℕ) (r : List ℕ) → CutsPrefixes Begins 
 cut_all s [] r h = ap from_word (sym h)
 cut_all s (n ∷ ns) r (m, h, b, e) = cut_all s ns m h ∙ (cut_one m n b ∙ ap from_word (sym e))
 
-stays : (b : Bool) (n : ℕ) (s : List ℕ) → (b ≡ true → b ≡ false) → drop (cond b n 0) s ≡ s
-stays true n s h = absurd (true≢false (h refl))
-stays false n s h = refl
-
 nothing_left : (r : List ℕ) (o : Option ℕ) → Begins r o → IfSome o (λ n. n ≡ 0) → from_word r ≡ r
 nothing_left [] None h z = refl
 nothing_left (b ∷ bs) None h z =
-    stays (is_blank b) _ (b ∷ bs) (λ p. h is_blank blanks b bs (scalar_blank b p) (ap (λ cs. cs ++ bs) (sym (encode_ascii b (ascii b p)))))
+    let dark : is_blank b ≡ true → is_blank b ≡ false = λ p. h is_blank blanks b bs (scalar_blank b p) (ap (λ cs. cs ++ bs) (sym (encode_ascii b (ascii b p)))) in
+    grind (arith, common_steps, dark)
 nothing_left r (Some n) h z =
     let (c, passes, at) = h is_blank blanks in absurd (omega (arith, at.ends, (len_utf8_bounds c).0))
 

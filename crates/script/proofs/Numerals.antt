@@ -46,16 +46,13 @@ read_on {F} {E} {g} base limit f r s u turn call (xs, Some x, p, a, (t, y, ended
     let refused : numeral_after base limit (Some a) (x ∷ bytes_rest u) ≡ None = ap (λ o. numeral_after base limit o (bytes_rest u)) (sym stops ∙ none) ∙ none_stays base limit (bytes_rest u) in
     is ∙ (sym refused ∙ (ap (numeral_after base limit (Some a)) (sym ended) ∙ (sym (on.1 (bytes_rest t)) ∙ ap (numeral_after base limit (Some 0)) (sym (came s t xs y)))))
 
-nothing : (a limit : ℕ) → ◌≡◌ {A = Option ℕ} None (Some a) → a ≤ limit
-nothing a limit h = let z : ◌≡◌ {A = ℕ} 0 1 = cc in omega arith
-
 after_bound : (base : Base) (limit : ℕ) (so_far : Option ℕ) (cs : List ℕ) (a : ℕ) → ((m : ℕ) → so_far ≡ Some m → m ≤ limit) → numeral_after base limit so_far cs ≡ Some a → a ≤ limit
 after_bound base limit so_far [] a k h = k a h
-after_bound base limit None (c ∷ cs) a k h = nothing a limit h
+after_bound base limit None (c ∷ cs) a k h = absurd cc
 after_bound base limit (Some n) (c ∷ cs) a k h =
     after_bound base limit (grown base limit n (digit_of base c)) cs a (λ m e. grown_bound base limit n (digit_of base c) m (sym e)) h
 
 -- a number that is read keeps its limit
 pub bounded : (base : Base) (limit : ℕ) (cs : List ℕ) (r : Option ℕ) → r ≡ numeral_after base limit (Some 0) cs → IfSome r (λ n. n ≤ limit)
 bounded base limit cs None h = tt
-bounded base limit cs (Some n) h = after_bound base limit (Some 0) cs n (λ m e. let z : 0 ≡ m = cc in omega arith) (sym h)
+bounded base limit cs (Some n) h = after_bound base limit (Some 0) cs n (λ m e. grind arith) (sym h)

@@ -10,6 +10,7 @@ pub(crate) struct Operand {
     pub base: Base,
     pub limit: u32,
     // what it is where its word is left out, if it may be
+    // kept: that this keeps the limit, as a ghost field, would put a proof into each operand of specs/
     pub absent: Option<u32>,
 }
 
@@ -85,6 +86,7 @@ pub(crate) fn read_operand(operand: Option<Operand>, word: &str) -> Option<u32>
     match operand {
         Some(taken) if word.is_empty() => taken.absent,
         Some(taken) => read_number(word, taken.base, taken.limit),
+        // kept: with None here, each of the 18 arms that build an entry would have to unwrap its numbers
         None => Some(0),
     }
 }

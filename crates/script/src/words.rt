@@ -1,7 +1,7 @@
 ghost use Rattle.std.specs.Prelude.{◌≡◌};
-ghost use Rattle.std.specs.List.{prefix_len};
+ghost use Rattle.std.specs.List.{position_or_len};
 ghost use Rattle.std.specs.Str.{IsCharBoundary};
-ghost use Rattle.script.specs.Words.{is_dark, from_word, before_comment, first_word, after_word};
+ghost use Rattle.script.specs.Words.{is_blank, from_word, before_comment, first_word, after_word};
 
 // What parts the words of a line.
 const BLANKS: [char; 3] = [' ', '\t', '\r'];
@@ -22,7 +22,7 @@ fn skip_blanks(text: &str) -> &str
 
 // How many bytes the word has that the text begins with.
 fn word_len(text: &str) -> usize
-    ensures len { result ≡ prefix_len is_dark text.now }
+    ensures len { result ≡ position_or_len is_blank text.now }
     ensures boundary { IsCharBoundary text.now result }
 {
     text.find(BLANKS).unwrap_or(text.len())
