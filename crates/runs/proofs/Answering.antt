@@ -1,20 +1,23 @@
 -- The answers of a run, one by one.
-use Rattle.std.proofs.Common.{◌≡◌, ℕ, ◌+◌, ◌<◌, ◌≤◌, List, [], ◌∷◌, ◌++◌, length, get_or, take, IfOk, Ok, Result, sym, refl, ap, ◌∙◌, subst, ⊎_elim, arith}
+use Rattle.std.proofs.Common.{◌≡◌, ℕ, ◌+◌, ◌%◌, ◌<◌, ◌≤◌, List, [], ◌∷◌, ◌++◌, length, get_or, take, IfOk, Ok, Result, sym, refl, ap, ◌∙◌, subst, ⊎_elim, arith}
 use Rattle.std.proofs.lemmas.List.{take_more, get_or_default, get_or_append_left, get_or_push, length_push}
 use Rattle.std.proofs.lemmas.Bool.{cases_lt}
 use Rattle.runs.specs.declared.Call.{Call}
 use Rattle.runs.specs.declared.Call.TheVariants.{Tick}
-use Rattle.runs.specs.declared.Answer.{Answer}
-use Rattle.runs.specs.declared.Answer.TheVariants.{Done}
-use Rattle.runs.specs.World.{World, opening, after, answer, run}
+use Rattle.runs.specs.declared.Reply.TheVariants.{Done}
+use Rattle.runs.specs.World.{World, opening, after, Answer, answer, run}
 use Rattle.runs.specs.Law.{Answered, GoesOn, RunLaw}
 use Rattle.runs.proofs.Runs.{run-++, run_push}
 use Rattle.runs.proofs.Laws.{law_of_runs}
 
+-- a byte of a call has 8 bits
+pub byte_stays : (v : ℕ) → v < 256 → v % 256 ≡ v
+byte_stays v h = omega arith
+
 -- the answers to the first n calls
 pub record AnsweredUpTo (w : World) (calls : List Call) (n : ℕ) (answers : List Answer) : Type 0 where
   pub as_many : length answers ≡ n
-  pub each : (k : ℕ) → k < n → get_or answers k Done ≡ answer (run w (take k calls)) (get_or calls k Tick)
+  pub each : (k : ℕ) → k < n → get_or answers k (Ok Done) ≡ answer (run w (take k calls)) (get_or calls k Tick)
 
 pub none_answered : (w : World) (calls : List Call) → AnsweredUpTo w calls 0 []
 none_answered w calls = record { as_many = refl; each = λ k h. absurd (omega arith) }
@@ -23,13 +26,13 @@ pub one_answered : (w v : World) (calls : List Call) (n : ℕ) (answers : List A
     → AnsweredUpTo w calls n answers → a ≡ answer v (get_or calls n d) → AnsweredUpTo w calls (n + 1) (answers ++ a ∷ [])
 one_answered w v calls n answers a d h r s e = record { as_many = length_push answers a ∙ ap (λ k. k + 1) s.as_many; each = told }
   where
-    told : (k : ℕ) → k < n + 1 → get_or (answers ++ a ∷ []) k Done ≡ answer (run w (take k calls)) (get_or calls k Tick)
+    told : (k : ℕ) → k < n + 1 → get_or (answers ++ a ∷ []) k (Ok Done) ≡ answer (run w (take k calls)) (get_or calls k Tick)
     told k l =
         ⊎_elim
-        (λ (q : k < n). get_or_append_left answers (a ∷ []) Done k (let z = s.as_many in omega arith) ∙ s.each k q)
+        (λ (q : k < n). get_or_append_left answers (a ∷ []) (Ok Done) k (let z = s.as_many in omega arith) ∙ s.each k q)
         (λ (q : n ≤ k). let z : n ≡ k = omega arith in
-        subst (λ (t : ℕ). get_or (answers ++ a ∷ []) t Done ≡ answer (run w (take t calls)) (get_or calls t Tick)) z
-        (get_or_push answers a Done n s.as_many ∙ e ∙ ap (λ (t : World). answer t (get_or calls n d)) r ∙ ap (answer (run w (take n calls))) (get_or_default calls n d Tick h)))
+        subst (λ (t : ℕ). get_or (answers ++ a ∷ []) t (Ok Done) ≡ answer (run w (take t calls)) (get_or calls t Tick)) z
+        (get_or_push answers a (Ok Done) n s.as_many ∙ e ∙ ap (λ (t : World). answer t (get_or calls n d)) r ∙ ap (answer (run w (take n calls))) (get_or_default calls n d Tick h)))
         (cases_lt k n)
 
 -- one call more

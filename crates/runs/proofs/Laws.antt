@@ -23,8 +23,7 @@ use Rattle.board.specs.Ports.{port_of}
 use Rattle.board.specs.Calls.{arrival_answer, arrival_after, store_line, Stored, these_stored, store_by}
 use Rattle.runs.specs.declared.Call.{Call}
 use Rattle.runs.specs.declared.Call.TheVariants.{ReadPort, WritePort, Tick, Acknowledge, Arrive, Load, Store, Reset, Grant}
-use Rattle.runs.specs.declared.Answer.{Answer as CallAnswer}
-use Rattle.runs.specs.declared.Answer.TheVariants.{Done}
+use Rattle.runs.specs.declared.Reply.TheVariants.{Done}
 use Rattle.runs.specs.World.{World, opening, on_board, after_store, after_carry, store_outcome, carry_outcome, after, answer, done_or_refused, run}
 use Rattle.runs.specs.Law.{words, is_done, post, units, is_given, is_taken, brought, Making, by_store, making, owed_by, of_channel, touches, out_0, rise, restarts, lifts, by_dma, Lawful, RunLaw}
 use Rattle.runs.proofs.Step.{Step, idle, AllListed}
@@ -289,10 +288,7 @@ kept w (Store a v) ok = store_sound w a v ok
 kept w Reset ok = record { board = reset_board w.board.lines; bytes = ok.bytes; fit = ok.fit }
 kept w Grant ok = (carry_step w ok).sound
 
-done_is : (a : CallAnswer) → a ≡ Done → is_done a ≡ true
-done_is a e = ap is_done e
-
-armed : (w : World) (n : ℕ) → Sound w → answer w (WritePort 0x44 n) ≡ Done → Waits (count_meant 256 (n % 256)) (after w (WritePort 0x44 n)).board.timers.watchdog
+armed : (w : World) (n : ℕ) → Sound w → answer w (WritePort 0x44 n) ≡ Ok Done → Waits (count_meant 256 (n % 256)) (after w (WritePort 0x44 n)).board.timers.watchdog
 unfolding after answer
 armed w n ok e = armed_waits w.board.timers.watchdog (n % 256) 0x44 ok.board.dog (ap is_done e)
 

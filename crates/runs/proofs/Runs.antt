@@ -19,7 +19,7 @@ use Rattle.board.specs.Carry.{wide_mode}
 use Rattle.board.specs.Calls.{store_line}
 use Rattle.runs.specs.declared.Call.{Call}
 use Rattle.runs.specs.declared.Call.TheVariants.{WritePort}
-use Rattle.runs.specs.declared.Answer.TheVariants.{Done}
+use Rattle.runs.specs.declared.Reply.TheVariants.{Done}
 use Rattle.runs.specs.World.{World, after, answer, run}
 use Rattle.runs.specs.Law.{line_in, read_line, words, lines, since, Readable, Never, is_store, post, posted, units, is_given, is_taken, brought, arrivals, making, owed, Posting, of_channel, touches, InSequence, Counts, rise, found, unanswered, restarts, lifts, by_dma, Halted, Stop, RunLaw}
 use Rattle.runs.proofs.Step.{Step, Served, idle, line, AllListed}
@@ -194,7 +194,7 @@ module _
     (law : (w : World) (c : Call) → Sound w → Step w c (after w c))
     (kept : (w : World) (c : Call) → Sound w → Sound (after w c))
     (small : (w : World) → Sound w → (i : ℕ) → (channel_at w.board i).count < 65536)
-    (armed : (w : World) (n : ℕ) → Sound w → answer w (WritePort 0x44 n) ≡ Done → Waits (written 256 (n % 256)) (after w (WritePort 0x44 n)).board.timers.watchdog)
+    (armed : (w : World) (n : ℕ) → Sound w → answer w (WritePort 0x44 n) ≡ Ok Done → Waits (written 256 (n % 256)) (after w (WritePort 0x44 n)).board.timers.watchdog)
   where
     sound_run : (w : World) → Sound w → (cs : List Call) → Sound (run w cs)
     unfolding run
@@ -359,7 +359,7 @@ module _
         choice false = refl
 
     -- OUT 3 after an accepted count
-    out_3 : (w : World) (ok : Sound w) (n : ℕ) (cs : List Call) → answer w (WritePort 0x44 n) ≡ Done → Never restarts (after w (WritePort 0x44 n)) cs
+    out_3 : (w : World) (ok : Sound w) (n : ℕ) (cs : List Call) → answer w (WritePort 0x44 n) ≡ Ok Done → Never restarts (after w (WritePort 0x44 n)) cs
         → (run (after w (WritePort 0x44 n)) cs).board.timers.watchdog.out ≡ leb (written 256 (n % 256)) (unanswered (after w (WritePort 0x44 n)) cs)
     out_3 w ok n cs d r =
         ap (λ (c : Counter). c.out) (sees (after w (WritePort 0x44 n)) (kept w (WritePort 0x44 n) ok) cs r)

@@ -8,7 +8,7 @@ use Rattle.rack.specs.Meaning.{Level, Levels}
 use Rattle.board.specs.State.{channel_at}
 use Rattle.runs.specs.declared.Call.{Call}
 use Rattle.runs.specs.declared.Call.TheVariants.{WritePort, Tick, Grant}
-use Rattle.runs.specs.declared.Answer.TheVariants.{Done}
+use Rattle.runs.specs.declared.Reply.TheVariants.{Done}
 use Rattle.runs.specs.World.{World, opening, after, answer, run}
 use Rattle.runs.specs.Law.{lines, Never, of_channel, touches, unanswered, restarts}
 
@@ -56,7 +56,7 @@ armed = after (run start watching) (WritePort 0x44 1)
 
 -- a watchdog of 1: the rise on tick 3 loads, the one on tick 5 is unanswered, and arbitration is stopped
 pub record StopMet : Type 0 where
-  pub accepted : answer (run start watching) (WritePort 0x44 1) ≡ Done
+  pub accepted : answer (run start watching) (WritePort 0x44 1) ≡ Ok Done
   pub alone : Never restarts armed (Tick ∷ Tick ∷ Tick ∷ Tick ∷ Tick ∷ [])
   pub before : unanswered armed (Tick ∷ Tick ∷ Tick ∷ Tick ∷ []) ≡ 0
   pub nth : unanswered armed (Tick ∷ Tick ∷ Tick ∷ Tick ∷ Tick ∷ []) ≡ 1

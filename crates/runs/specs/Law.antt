@@ -23,9 +23,8 @@ use Rattle.board.specs.Carry.{wide_mode}
 use Rattle.board.specs.Calls.{store_line}
 use Rattle.runs.specs.declared.Call.{Call}
 use Rattle.runs.specs.declared.Call.TheVariants.{ReadPort, WritePort, Tick, Acknowledge, Arrive, Load, Store, Reset, Grant}
-use Rattle.runs.specs.declared.Answer.{Answer}
-use Rattle.runs.specs.declared.Answer.TheVariants.{Done, Byte, Carried, Refused}
-use Rattle.runs.specs.World.{World, opening, after, answer, run}
+use Rattle.runs.specs.declared.Reply.TheVariants.{Done, Byte, Carried}
+use Rattle.runs.specs.World.{World, opening, after, Answer, answer, run}
 
 -- The journal's lines.
 
@@ -65,16 +64,16 @@ is_store Verify = false
 is_store StoreKind = true
 
 abbrev pub is_done : Answer → Bool
-is_done Done = true
-is_done (Byte v) = false
-is_done (Carried line) = false
-is_done (Refused f) = false
+is_done (Ok Done) = true
+is_done (Ok (Byte v)) = false
+is_done (Ok (Carried line)) = false
+is_done (Err f) = false
 
 abbrev pub is_line : Answer → Bool
-is_line Done = false
-is_line (Byte v) = false
-is_line (Carried line) = line
-is_line (Refused f) = false
+is_line (Ok Done) = false
+is_line (Ok (Byte v)) = false
+is_line (Ok (Carried line)) = line
+is_line (Err f) = false
 
 -- A. POSTING
 
@@ -308,7 +307,7 @@ abbrev pub Stop : World → List Call → Type 0
 Stop w calls =
     (past : List Call) (n : ℕ) (counting : List Call) (nth : Call) (stretch rest : List Call)
     → calls ≡ past ++ (WritePort 0x44 n ∷ (counting ++ (nth ∷ (stretch ++ rest))))
-    → answer (run w past) (WritePort 0x44 n) ≡ Done
+    → answer (run w past) (WritePort 0x44 n) ≡ Ok Done
     → Never restarts (after (run w past) (WritePort 0x44 n)) (counting ++ (nth ∷ []))
     → unanswered (after (run w past) (WritePort 0x44 n)) counting < written 256 (n % 256)
     → unanswered (after (run w past) (WritePort 0x44 n)) (counting ++ (nth ∷ [])) ≡ written 256 (n % 256)
@@ -335,4 +334,4 @@ GoesOn w calls v =
 -- each call's answer is the one that the rules give on the result so far
 pub record Answered (w : World) (calls : List Call) (answers : List Answer) : Type 0 where
   pub as_many : length answers ≡ length calls
-  pub each : (k : ℕ) → k < length calls → slice_index_or answers k Done ≡ answer (run w (take k calls)) (slice_index_or calls k Tick)
+  pub each : (k : ℕ) → k < length calls → slice_index_or answers k (Ok Done) ≡ answer (run w (take k calls)) (slice_index_or calls k Tick)

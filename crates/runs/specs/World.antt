@@ -10,8 +10,8 @@ use Rattle.board.specs.Carry.{Outcome}
 use Rattle.board.specs.Calls.{arrival_answer, arrival_after, loaded, Stored, stored, cycled}
 use Rattle.runs.specs.declared.Call.{Call}
 use Rattle.runs.specs.declared.Call.TheVariants.{ReadPort, WritePort, Tick, Acknowledge, Arrive, Load, Store, Reset, Grant}
-use Rattle.runs.specs.declared.Answer.{Answer}
-use Rattle.runs.specs.declared.Answer.TheVariants.{Done, Byte, Carried, Refused}
+use Rattle.runs.specs.declared.Reply.{Reply}
+use Rattle.runs.specs.declared.Reply.TheVariants.{Done, Byte, Carried}
 
 -- the board, what memory and rack mean, and the journal's words
 pub record World : Type 0 where
@@ -54,28 +54,32 @@ after w (Store a v) = after_store w (store_outcome w a v)
 after w Reset = on_board w (was_reset w.board)
 after w Grant = after_carry (carry_outcome w)
 
+-- a reply, or the fault that refuses the call
+abbrev pub Answer : Type 0
+Answer = Result Reply Fault
+
 abbrev pub done_or_refused : Result (Unit {0}) Fault → Answer
-done_or_refused (Ok x) = Done
-done_or_refused (Err f) = Refused f
+done_or_refused (Ok x) = Ok Done
+done_or_refused (Err f) = Err f
 
 abbrev pub byte_or_refused : Result ℕ Fault → Answer
-byte_or_refused (Ok v) = Byte v
-byte_or_refused (Err f) = Refused f
+byte_or_refused (Ok v) = Ok (Byte v)
+byte_or_refused (Err f) = Err f
 
 abbrev pub carried_or_refused : Result Bool Fault → Answer
-carried_or_refused (Ok line) = Carried line
-carried_or_refused (Err f) = Refused f
+carried_or_refused (Ok line) = Ok (Carried line)
+carried_or_refused (Err f) = Err f
 
 -- what a call answers
 unfoldable pub answer : World → Call → Answer
 answer w (ReadPort p) = byte_or_refused (port_read w.board p).answer
 answer w (WritePort p v) = done_or_refused (port_written w.board p (v % 256)).answer
-answer w Tick = Done
-answer w Acknowledge = Done
+answer w Tick = Ok Done
+answer w Acknowledge = Ok Done
 answer w (Arrive l u) = done_or_refused (arrival_answer w.rack l u)
 answer w (Load a) = byte_or_refused (loaded w.memory a)
 answer w (Store a v) = done_or_refused (store_outcome w a v).answer
-answer w Reset = Done
+answer w Reset = Ok Done
 answer w Grant = carried_or_refused (carry_outcome w).answer
 
 -- what a list of calls leads to

@@ -3,7 +3,7 @@
 ghost use Rattle.std.specs.Prelude.{◌≡◌, ℕ, List, [], ◌∷◌, ◌++◌, IfOk, OnErr, OnOk};
 ghost use Rattle.memory.specs.Meaning.{Contents};
 ghost use Rattle.rack.specs.Meaning.{Levels};
-ghost use Rattle.runs.specs.World.{World, world, opening, after, answer, done_or_refused, byte_or_refused, carried_or_refused, run};
+ghost use Rattle.runs.specs.World.{World, world, opening, after, answer, run};
 ghost use Rattle.runs.specs.Examples.{CountMet, StopMet, start, programmed, three_grants};
 ghost use Rattle.runs.specs.Law.{Answered, GoesOn, RunLaw};
 
@@ -14,7 +14,7 @@ use rack::Rack;
 use std::alloc::{AllocError, Global};
 
 // A call of the bus; a grant goes with its carry.
-#[derive(Clone, Copy)]
+#[derive(Clone, Copy, Debug, PartialEq, Eq)]
 pub enum Call {
     ReadPort(u16),
     WritePort(u16, u8),
@@ -28,15 +28,17 @@ pub enum Call {
     Grant,
 }
 
-// What a call is answered.
-#[derive(Clone, Copy)]
-pub enum Answer {
+// What a call brings if it is accepted.
+#[derive(Clone, Copy, Debug, PartialEq, Eq)]
+pub enum Reply {
     Done,
     Byte(u8),
     // whether a line was put down
     Carried(bool),
-    Refused(Fault),
 }
+
+// What a call is answered.
+pub type Answer = Result<Reply, Fault>;
 
 // A board after its first calls, its bus, and what the calls were answered.
 #[derive(Drop)]
@@ -46,34 +48,8 @@ pub struct Performed {
     pub answers: Vec<Answer>,
 }
 
-fn from_done(res: Result<(), Fault>) -> Answer
-    ensures { result ≡ done_or_refused res }
-{
-    match res {
-        Ok(()) => Answer::Done,
-        Err(fault) => Answer::Refused(fault),
-    }
-}
-
-fn from_byte(res: Result<u8, Fault>) -> Answer
-    ensures { result ≡ byte_or_refused res }
-{
-    match res {
-        Ok(byte) => Answer::Byte(byte),
-        Err(fault) => Answer::Refused(fault),
-    }
-}
-
-fn from_carry(res: Result<bool, Fault>) -> Answer
-    ensures { result ≡ carried_or_refused res }
-{
-    match res {
-        Ok(line) => Answer::Carried(line),
-        Err(fault) => Answer::Refused(fault),
-    }
-}
-
 // One call.
+#[tactic(auto, using(crate::proofs::Answering::byte_stays), unfolding(crate::specs::World::after, crate::specs::World::answer))]
 fn act<M: Memory, R: Rack>(
     bus: Bus,
     board: &mut Board,
@@ -85,44 +61,32 @@ fn act<M: Memory, R: Rack>(
     ensures answered { result.1 ≡ answer (world board.old (M.Memory.meaning memory.old) (R.Rack.meaning rack.old) journal.old) call }
     ensures left { world board.new (M.Memory.meaning memory.new) (R.Rack.meaning rack.new) journal.new ≡ after (world board.old (M.Memory.meaning memory.old) (R.Rack.meaning rack.old) journal.old) call }
 {
-    match call {
-        Call::ReadPort(port) => {
-            let answer = from_byte(bus.read_port(board, port));
-            (bus, answer)
-        }
-        Call::WritePort(port, byte) => {
-            let answer = from_done(bus.write_port(board, port, byte));
-            (bus, answer)
-        }
+    let answer = match call {
+        Call::ReadPort(port) => bus.read_port(board, port).map(Reply::Byte),
+        Call::WritePort(port, byte) => bus.write_port(board, port, byte).map(|()| Reply::Done),
         Call::Tick => {
             bus.tick(board);
-            (bus, Answer::Done)
+            Ok(Reply::Done)
         }
         Call::Acknowledge => {
             bus.acknowledge(board);
-            (bus, Answer::Done)
+            Ok(Reply::Done)
         }
-        Call::Arrive(level, unit) => {
-            let answer = from_done(bus.arrive(rack, level, unit));
-            (bus, answer)
-        }
-        Call::Load(address) => {
-            let answer = from_byte(bus.load(memory, address));
-            (bus, answer)
-        }
-        Call::Store(address, byte) => {
-            let answer = from_done(bus.store(board, memory, journal, address, byte));
-            (bus, answer)
-        }
+        Call::Arrive(level, unit) => bus.arrive(rack, level, unit).map(|()| Reply::Done),
+        Call::Load(address) => bus.load(memory, address).map(Reply::Byte),
+        Call::Store(address, byte) => bus
+            .store(board, memory, journal, address, byte)
+            .map(|()| Reply::Done),
         Call::Reset => {
             bus.reset(board);
-            (bus, Answer::Done)
+            Ok(Reply::Done)
         }
         Call::Grant => {
             let (bus, result) = cycle(bus, board, memory, rack, journal);
-            (bus, from_carry(result))
+            return (bus, result.map(Reply::Carried));
         }
-    }
+    };
+    (bus, answer)
 }
 
 // Performs one call on a board in use. Whatever list of calls has led to its board, memory, rack and journal from an
@@ -147,7 +111,7 @@ pub fn perform_one<M: Memory, R: Rack>(
 // nothing is performed.
 pub fn go_on<M: Memory, R: Rack>(
     heap: Global,
-    bus: Bus,
+    mut bus: Bus,
     board: &mut Board,
     memory: &mut M,
     rack: &mut R,
@@ -159,11 +123,9 @@ pub fn go_on<M: Memory, R: Rack>(
     ensures law { OnOk result.1 (GoesOn (world board.old (M.Memory.meaning memory.old) (R.Rack.meaning rack.old) journal.old) calls.now (world board.new (M.Memory.meaning memory.new) (R.Rack.meaning rack.new) journal.new)) }
     ensures unaltered { OnErr result.1 (world board.new (M.Memory.meaning memory.new) (R.Rack.meaning rack.new) journal.new ≡ world board.old (M.Memory.meaning memory.old) (R.Rack.meaning rack.old) journal.old) }
 {
-    let mut answers = match Vec::with_capacity(heap, calls.len()) {
-        Ok(answers) => answers,
-        Err(error) => return (bus, Err(error)),
+    let Ok(mut answers) = Vec::with_capacity(heap, calls.len()) else {
+        return (bus, Err(AllocError));
     };
-    let mut bus = bus;
     for call in calls {
         let (next, answer) = act(bus, board, memory, rack, journal, *call);
         bus = next;
@@ -188,14 +150,11 @@ pub fn perform<M: Memory, R: Rack>(
 {
     let (mut board, bus) = power_on();
     let (bus, result) = go_on(heap, bus, &mut board, memory, rack, journal, calls);
-    match result {
-        Ok(answers) => Ok(Performed {
-            board,
-            bus,
-            answers,
-        }),
-        Err(error) => Err(error),
-    }
+    Ok(Performed {
+        board,
+        bus,
+        answers: result?,
+    })
 }
 
 // The law's premises can be met: small runs, computed. The answer is the number of lines that the first of them puts down.
