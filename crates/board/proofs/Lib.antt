@@ -1,4 +1,4 @@
 pub mod Least
-pub mod Winner
+pub mod Searched
 pub mod Worked
 pub mod Arbitrating

@@ -1,5 +1,5 @@
 -- What carry checks, in order, and what the moving of one unit leaves.
-use Rattle.std.specs.Prelude.{◌≡◌, ℕ, ◌+◌, ◌*◌, ◌/◌, ◌%◌, ◌<◌, Bool, true, false, cond, not, ◌&&◌, ◌||◌, List, length, Ok, Err, Result, ◌==◌, nat_lt, slice_index, slice_set}
+use Rattle.std.specs.Prelude.{◌≡◌, ℕ, ◌+◌, ◌*◌, ◌/◌, ◌%◌, ◌^◌, ◌<◌, Bool, true, false, cond, not, ◌&&◌, ◌||◌, List, length, Ok, Err, Result, ◌==◌, nat_lt, slice_index, slice_set}
 use Rattle.fault.specs.declared.Fault.{Fault}
 use Rattle.fault.specs.declared.Refusal.{Refusal}
 use Rattle.fault.specs.declared.Refusal.TheVariants.{JournalFull, CannotServe}
@@ -52,6 +52,10 @@ both (Err f) b = Err f
 
 abbrev pub span : (ℕ → Answer) → Bool → ℕ → Answer
 span ask wide a = both (ask a) (cond wide (ask (after a 1)) (Ok tt))
+
+-- all that asking may answer at an address of 32 bits is what the function tells
+abbrev pub Told : (ℕ → Answer → Type 0) → (ℕ → Answer) → Type 0
+Told may_answer answers = (a : ℕ) (x : Answer) → a < 2 ^ 32 → may_answer a x → x ≡ answers a
 
 -- a verify asks for reading only
 abbrev pub memory_answer : Contents → Motion → Bool → ℕ → Answer

@@ -1,10 +1,11 @@
 -- Which level wins the bus, and which channel serves it.
-use Rattle.std.specs.Prelude.{◌≡◌, ℕ, zero, suc, ◌<◌, ◌≤◌, Bool, true, false, cond, not, ◌&&◌, List, ◌==◌, nat_lt}
+use Rattle.std.specs.Prelude.{◌≡◌, ℕ, zero, suc, ◌<◌, ◌≤◌, Bool, true, false, cond, not, ◌&&◌, List, Some, None, Option, ◌==◌, nat_lt}
 use Rattle.dma.specs.declared.controller.Mark.TheVariants.{Request}
 use Rattle.dma.specs.Registers.{marked, with_status}
 use Rattle.rack.specs.Meaning.{Levels}
 use Rattle.board.specs.declared.state.Arbitration.{Arbitration}
 use Rattle.board.specs.declared.state.Board.{Board}
+use Rattle.board.specs.declared.winner.Winner.{Winner}
 use Rattle.board.specs.State.{channel_at, with_dma, with_arbitration}
 
 -- the least number below n that passes the test, or n
@@ -31,6 +32,11 @@ winner_of b r = least (contends b r) 15
 -- the channel that serves the winner; 0 where the processor wins
 abbrev pub serving : Board → ℕ → ℕ
 serving b l = cond (l == 15) 0 (server b l)
+
+-- an arbitration's answer: the winner with its channel, or none where the processor wins
+abbrev pub Won : Board → Levels → Option Winner → Type 0
+Won b r None = winner_of b r ≡ 15
+Won b r (Some w) = (w.level ≡ winner_of b r) × (w.channel ≡ serving b (winner_of b r))
 
 -- the status after the request bits of the first n channels: masked or open, by its level's line
 unfoldable pub requested : Board → Levels → ℕ → List ℕ

@@ -1,12 +1,12 @@
 ghost use Rattle.std.specs.Prelude.{◌≡◌, ℕ, ◌+◌, ◌%◌, ◌^◌, ◌<◌, true, false, cond};
 ghost use Rattle.board.specs.Calls.{arrival_answer, arrival_after, loaded, stored, these_stored, cycled};
 ghost use Rattle.board.specs.Carry.{these, carried};
-ghost use Rattle.board.specs.Grant.{Arbitrated, Wins, granted, requested, winner_of, serving};
+ghost use Rattle.board.specs.Grant.{Arbitrated, Wins, Won, granted, requested, winner_of, serving};
 ghost use Rattle.board.specs.Ports.{port_written, port_read, tick_after, acknowledge_after};
 ghost use Rattle.board.specs.State.{unused, was_reset, with_dma};
 ghost use Rattle.dma.specs.Registers.{with_status};
 
-use crate::{Board, GrantedBus, put_down};
+use crate::{Board, GrantedBus, Winner, put_down};
 use dma::Mark;
 use fault::{Fault, Refusal};
 use journal::{Kind as LineKind, Line};
@@ -34,35 +34,37 @@ pub fn power_on() -> (Board, Bus)
 
 impl Board {
     // Sets the request bit of each channel whose level's line is up.
+    #[tactic(auto, unfolding(crate::specs::Grant::requested))]
     fn request<R: Rack>(&mut self, rack: &R)
         ensures { self.new ≡ with_dma self.old (with_status self.old.dma (requested self.old (R.Rack.meaning rack.now) 8)) }
     {
-        for n in 0u8..8 {
-            if rack.summary(self.channels[n as usize].level).line {
-                self.dma.mark(n, Mark::Request);
+        let Board { channels, dma, .. } = self;
+        for (n, channel) in channels.iter().enumerate() {
+            if rack.summary(channel.level).line {
+                dma.mark(n as u8, Mark::Request);
             }
         }
     }
 
     // The lowest level whose line is up and that has an open channel, with its lowest open channel.
-    fn arbitrate<R: Rack>(&self, rack: &R) -> (u8, u8)
-        ensures level { result.0 ≡ winner_of self.now (R.Rack.meaning rack.now) }
-        ensures channel { result.1 ≡ serving self.now (winner_of self.now (R.Rack.meaning rack.now)) }
-        ensures within { (result.1 < 8) × (result.0 < 16) }
+    // kept: a rule of the project: arbitration is a search by labelled break
+    #[tactic(auto, using(crate::proofs::Arbitrating::wins, crate::proofs::Searched::passed, crate::proofs::Searched::none_won))]
+    fn arbitrate<R: Rack>(&self, rack: &R) -> Option<Winner>
+        ensures winner { Won self.now (R.Rack.meaning rack.now) result }
         ensures wins { Wins self.now (R.Rack.meaning rack.now) (winner_of self.now (R.Rack.meaning rack.now)) (serving self.now (winner_of self.now (R.Rack.meaning rack.now))) }
     {
         'won: {
             for level in 0u8..15 {
                 if rack.summary(level).line {
-                    for channel in 0u8..8 {
-                        let c = self.channels[channel as usize];
-                        if !c.masked && c.level == level {
-                            break 'won (level, channel);
+                    for (channel, registers) in self.channels.iter().enumerate() {
+                        if !registers.masked && registers.level == level {
+                            let channel = channel as u8;
+                            break 'won Some(Winner { level, channel });
                         }
                     }
                 }
             }
-            (15, 0)
+            None
         }
     }
 }
@@ -176,21 +178,20 @@ impl Bus {
         ensures law { Arbitrated board.old (R.Rack.meaning rack.now) (granted board.old (R.Rack.meaning rack.now)) }
     {
         let Bus { grants } = self;
-        let grants = grants.wrapping_add(1);
-        if board.arbitration.mask {
-            board.arbitration.winner = 15;
-            return GrantedBus {
-                grants,
-                level: 15,
-                channel: 0,
-                spent: false,
-            };
-        }
-        let (level, channel) = board.arbitrate(rack);
-        board.request(rack);
+        let winner = if board.arbitration.mask {
+            None
+        } else {
+            let winner = board.arbitrate(rack);
+            board.request(rack);
+            winner
+        };
+        let (level, channel) = match winner {
+            Some(winner) => (winner.level, winner.channel),
+            None => (15, 0),
+        };
         board.arbitration.winner = level;
         GrantedBus {
-            grants,
+            grants: grants.wrapping_add(1),
             level,
             channel,
             spent: false,
@@ -199,6 +200,7 @@ impl Bus {
 }
 
 // Grants the bus and carries at once.
+// kept: the four references, as in carry
 pub fn cycle<M: Memory, R: Rack>(
     bus: Bus,
     board: &mut Board,

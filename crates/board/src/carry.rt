@@ -1,12 +1,12 @@
 ghost use Rattle.std.specs.Prelude.{◌≡◌, ℕ, ◌+◌, ◌*◌, ◌/◌, ◌%◌, ◌<◌, true, cond, length, IfOk, Ok};
 ghost use Rattle.dma.specs.Channels.{after};
 ghost use Rattle.journal.specs.Layout.{listed};
-ghost use Rattle.memory.specs.Meaning.{Contents};
+ghost use Rattle.memory.specs.Meaning.{Answer, Contents};
 ghost use Rattle.rack.specs.Meaning.{Levels, fits, told};
-ghost use Rattle.board.specs.Carry.{wide_mode, motion_of, asked, serves, card_able_for, span, memory_answer, checked, Ready, fetched, landed, unit_of, memory_moved, rack_moved, line_kind, line_of, counted, told_if, these, performed, failing, carried};
+ghost use Rattle.board.specs.Carry.{wide_mode, motion_of, asked, serves, card_able_for, span, Told, memory_answer, checked, Ready, fetched, landed, unit_of, memory_moved, rack_moved, line_kind, line_of, counted, these, performed, failing, carried};
 ghost use Rattle.board.specs.State.{channel_at};
 
-use crate::{Board, Bus, put_down};
+use crate::{Board, Bus, Winner, put_down};
 use dma::{Channel, Mark, advance};
 use fault::{Fault, Refusal};
 use journal::{Kind as LineKind, Line};
@@ -22,6 +22,7 @@ pub enum Motion {
 }
 
 // One unit that has passed every check and is to be moved.
+// kept: the bounds of its numbers stand in Ready and not here, since specs/ makes transfers of any numbers: the new form is no plainer
 #[derive(Clone, Copy)]
 pub struct Transfer {
     pub motion: Motion,
@@ -57,34 +58,26 @@ fn serves<R: Rack>(channel: Channel, rack: &R, level: u8) -> bool
     ensures able { result ≡ true → (((R.Rack.meaning rack.now).at level).wide ≡ wide_mode channel.mode) × (card_able_for (motion_of channel.mode) ((R.Rack.meaning rack.now).at level) ≡ true) }
 {
     let card = rack.summary(level);
-    let (kind_suits, able) = match card.kind {
-        Kind::Empty => (false, false),
-        Kind::Giver => (channel.writes_memory(), card.waiting > 0),
-        Kind::Taker => (!channel.writes_memory(), card.room > 0),
+    let verifies = !channel.transfers();
+    let able = match card.kind {
+        Kind::Empty => false,
+        Kind::Giver => channel.writes_memory() && (verifies || card.waiting > 0),
+        Kind::Taker => !channel.writes_memory() && (verifies || card.room > 0),
     };
-    card.wide == channel.is_wide() && kind_suits && (!channel.transfers() || able)
+    card.wide == channel.is_wide() && able
 }
 
-fn ask_to_write<M: Memory>(memory: &M, wide: bool, at: u32) -> Result<(), MemoryFault>
-    ensures { result ≡ span (M.Memory.meaning memory.now).writes wide at }
+// What asking answers at the address and, of a wide unit, at the next.
+fn ask_each<F: Fn(u32) -> Result<(), MemoryFault>>(
+    ask: F,
+    wide: bool,
+    at: u32,
+) -> Result<(), MemoryFault>
+    requires { F.IsAlwaysCallable ask }
+    ensures { (answers : ℕ → Answer) → Told (F.post ask) answers → result ≡ span answers wide at }
 {
-    memory.may_write(at)?;
-    if wide {
-        memory.may_write(advance(at, 1))
-    } else {
-        Ok(())
-    }
-}
-
-fn ask_to_read<M: Memory>(memory: &M, wide: bool, at: u32) -> Result<(), MemoryFault>
-    ensures { result ≡ span (M.Memory.meaning memory.now).reads wide at }
-{
-    memory.may_read(at)?;
-    if wide {
-        memory.may_read(advance(at, 1))
-    } else {
-        Ok(())
-    }
+    ask(at)?;
+    if wide { ask(advance(at, 1)) } else { Ok(()) }
 }
 
 // What the memory answers to a unit at the address, its low byte first.
@@ -92,8 +85,8 @@ fn ask<M: Memory>(memory: &M, motion: Motion, wide: bool, at: u32) -> Result<(),
     ensures { result ≡ memory_answer (M.Memory.meaning memory.now) motion wide at }
 {
     match motion {
-        Motion::ToMemory => ask_to_write(memory, wide, at),
-        Motion::ToCard | Motion::Verify => ask_to_read(memory, wide, at),
+        Motion::ToMemory => ask_each(|byte_at| memory.may_write(byte_at), wide, at),
+        Motion::ToCard | Motion::Verify => ask_each(|byte_at| memory.may_read(byte_at), wide, at),
     }
 }
 
@@ -101,25 +94,21 @@ impl Board {
     // The checks of carry, in order.
     fn check<M: Memory, R: Rack>(
         &self,
-        level: u8,
-        channel: u8,
+        winner: Winner,
         memory: &M,
         rack: &R,
         size: usize,
     ) -> Result<Transfer, Fault>
-        requires { (channel < 8) × (level < 15) }
-        ensures answer { result ≡ checked self.now (M.Memory.meaning memory.now) (R.Rack.meaning rack.now) size level channel }
+        ensures answer { result ≡ checked self.now (M.Memory.meaning memory.now) (R.Rack.meaning rack.now) size winner.level winner.channel }
         ensures room { IfOk result (λ t. (self.now.lines < size) × (self.now.lines < 65536)) }
         ensures ready { IfOk result (λ t. Ready t (M.Memory.meaning memory.now) (R.Rack.meaning rack.now)) }
     {
+        let Winner { level, channel } = winner;
         if journal::is_full(self.lines, size) {
             return Err(Fault::own(Refusal::JournalFull, u32::from(level)));
         }
         let registers = self.channels[channel as usize];
-        if !asks(registers, rack, level) {
-            return Err(Fault::own(Refusal::CannotServe, u32::from(level)));
-        }
-        if !serves(registers, rack, level) {
+        if !asks(registers, rack, level) || !serves(registers, rack, level) {
             return Err(Fault::own(Refusal::CannotServe, u32::from(level)));
         }
         let motion = decode_motion(registers);
@@ -137,79 +126,62 @@ impl Board {
     }
 }
 
-fn low_byte(unit: u16) -> u8
-    ensures { result ≡ unit % 256 }
-{
-    (unit & 0xff) as u8
-}
-
-fn high_byte(unit: u16) -> u8
-    ensures { result ≡ unit / 256 }
-{
-    (unit >> 8) as u8
-}
-
 // Puts a unit into a memory that has answered yes to it.
 fn store_unit<M: Memory>(memory: &mut M, wide: bool, at: u32, unit: u16)
     requires { span (M.Memory.meaning memory.old).writes wide at ≡ Ok tt }
     ensures { M.Memory.meaning memory.new ≡ landed (M.Memory.meaning memory.old) wide at unit }
 {
-    let _ = memory.write(at, low_byte(unit));
+    let [low, high] = unit.to_le_bytes();
+    memory.write(at, low).unwrap();
     if wide {
-        let _ = memory.write(advance(at, 1), high_byte(unit));
+        memory.write(advance(at, 1), high).unwrap();
     }
 }
 
-// The byte of a memory that has answered yes to reading it.
-fn load_byte<M: Memory>(memory: &M, at: u32) -> u8
-    requires { (M.Memory.meaning memory.now).reads at ≡ Ok tt }
-    ensures { result ≡ (M.Memory.meaning memory.now).byte at }
-{
-    memory.read(at).unwrap_or(0)
-}
-
+// The unit at an address that the memory has answered yes to.
 fn load_unit<M: Memory>(memory: &M, wide: bool, at: u32) -> u16
     requires { span (M.Memory.meaning memory.now).reads wide at ≡ Ok tt }
     ensures unit { result ≡ fetched (M.Memory.meaning memory.now) wide at }
     ensures fit { fits wide result ≡ true }
 {
-    let low = u16::from(load_byte(memory, at));
-    if wide {
-        let high = u16::from(load_byte(memory, advance(at, 1)));
-        low + 256 * high
+    let low = memory.read(at).unwrap();
+    let high = if wide {
+        memory.read(advance(at, 1)).unwrap()
     } else {
-        low
-    }
+        0
+    };
+    u16::from_le_bytes([low, high])
 }
 
 // Moves one unit that has passed the checks.
-fn move_unit<M: Memory, R: Rack>(t: Transfer, memory: &mut M, rack: &mut R) -> u16
-    requires { Ready t (M.Memory.meaning memory.old) (R.Rack.meaning rack.old) }
-    ensures unit { result ≡ unit_of t.motion (M.Memory.meaning memory.old) (R.Rack.meaning rack.old) t }
-    ensures memory { M.Memory.meaning memory.new ≡ memory_moved t.motion (M.Memory.meaning memory.old) t result }
-    ensures rack { R.Rack.meaning rack.new ≡ rack_moved t.motion (R.Rack.meaning rack.old) t result }
-    ensures line { listed (line_of t result) ≡ true }
+fn move_unit<M: Memory, R: Rack>(transfer: Transfer, memory: &mut M, rack: &mut R) -> u16
+    requires { Ready transfer (M.Memory.meaning memory.old) (R.Rack.meaning rack.old) }
+    ensures unit { result ≡ unit_of transfer.motion (M.Memory.meaning memory.old) (R.Rack.meaning rack.old) transfer }
+    ensures memory { M.Memory.meaning memory.new ≡ memory_moved transfer.motion (M.Memory.meaning memory.old) transfer result }
+    ensures rack { R.Rack.meaning rack.new ≡ rack_moved transfer.motion (R.Rack.meaning rack.old) transfer result }
+    ensures line { listed (line_of transfer result) ≡ true }
 {
-    match t.motion {
+    match transfer.motion {
         Motion::ToMemory => {
-            let unit = rack.give(t.level).unwrap_or(0);
-            store_unit(memory, t.wide, t.address, unit);
+            let unit = rack.give(transfer.level).unwrap();
+            store_unit(memory, transfer.wide, transfer.address, unit);
             unit
         }
         Motion::ToCard => {
-            let unit = load_unit(memory, t.wide, t.address);
-            let _ = rack.take(t.level, unit);
+            let unit = load_unit(memory, transfer.wide, transfer.address);
+            rack.take(transfer.level, unit).unwrap();
             unit
         }
         Motion::Verify => 0,
     }
 }
 
-impl Motion {
-    fn line_kind(self) -> LineKind
-        ensures { result ≡ line_kind self }
-    {
-        match self {
+// The kind of line that tells of a unit that went so.
+impl From<Motion> for LineKind {
+    ghost from_gives = { λ motion kind. kind ≡ line_kind motion };
+
+    fn from(motion: Motion) -> LineKind {
+        match motion {
             Motion::ToMemory => LineKind::CardToMemory,
             Motion::ToCard => LineKind::MemoryToCard,
             Motion::Verify => LineKind::Verify,
@@ -221,9 +193,8 @@ impl Transfer {
     fn line(self, unit: u16) -> Line
         ensures { result ≡ line_of self unit }
     {
-        let kind = self.motion.line_kind();
         Line {
-            kind,
+            kind: LineKind::from(self.motion),
             channel: self.channel,
             wide: self.wide,
             last: self.last,
@@ -234,24 +205,17 @@ impl Transfer {
     }
 }
 
-fn tell_if<R: Rack>(last: bool, rack: &mut R, level: u8)
-    ensures { R.Rack.meaning rack.new ≡ told_if last (R.Rack.meaning rack.old) level }
-{
-    if last {
-        rack.tell_last(level);
-    }
-}
-
 impl Board {
     // Steps the unit's channel, closes it after the last unit, and counts the line.
-    fn count(&mut self, t: Transfer)
-        requires { (t.channel < 8) × (self.old.lines < 65536) }
-        ensures { self.new ≡ counted self.old t }
+    fn count(&mut self, transfer: Transfer)
+        requires { (transfer.channel < 8) × (self.old.lines < 65536) }
+        ensures { self.new ≡ counted self.old transfer }
     {
-        self.channels[t.channel as usize].step(t.wide);
-        if t.last {
-            self.channels[t.channel as usize].set_mask(true);
-            self.dma.mark(t.channel, Mark::Last);
+        let channel = transfer.channel as usize;
+        self.channels[channel].step(transfer.wide);
+        if transfer.last {
+            self.channels[channel].set_mask(true);
+            self.dma.mark(transfer.channel, Mark::Last);
         }
         self.lines += 1;
     }
@@ -259,35 +223,35 @@ impl Board {
     // Moves one unit that has passed the checks, and puts its line down.
     fn perform<M: Memory, R: Rack>(
         &mut self,
-        t: Transfer,
+        transfer: Transfer,
         memory: &mut M,
         rack: &mut R,
         journal: &mut [u64],
     )
-        requires { ((self.old.lines < length journal.old) × (self.old.lines < 65536)) × (Ready t (M.Memory.meaning memory.old) (R.Rack.meaning rack.old)) }
-        ensures { these self.new (M.Memory.meaning memory.new) (R.Rack.meaning rack.new) journal.new (Ok true) ≡ performed self.old (M.Memory.meaning memory.old) (R.Rack.meaning rack.old) journal.old t (unit_of t.motion (M.Memory.meaning memory.old) (R.Rack.meaning rack.old) t) }
+        requires { ((self.old.lines < length journal.old) × (self.old.lines < 65536)) × (Ready transfer (M.Memory.meaning memory.old) (R.Rack.meaning rack.old)) }
+        ensures { these self.new (M.Memory.meaning memory.new) (R.Rack.meaning rack.new) journal.new (Ok true) ≡ performed self.old (M.Memory.meaning memory.old) (R.Rack.meaning rack.old) journal.old transfer (unit_of transfer.motion (M.Memory.meaning memory.old) (R.Rack.meaning rack.old) transfer) }
     {
-        let unit = move_unit(t, memory, rack);
-        tell_if(t.last, rack, t.level);
-        put_down(journal, self.lines, t.line(unit));
-        self.count(t);
+        let unit = move_unit(transfer, memory, rack);
+        if transfer.last {
+            rack.tell_last(transfer.level);
+        }
+        put_down(journal, self.lines, transfer.line(unit));
+        self.count(transfer);
     }
 
     // A failed check shows at port 0090, but for a full journal.
     fn fail(&mut self, refusal: Refusal)
         ensures { self.new ≡ failing refusal self.old }
     {
-        match refusal {
-            Refusal::JournalFull => {}
-            _ => {
-                self.arbitration.mask = true;
-                self.arbitration.timeout = true;
-            }
+        if refusal != Refusal::JournalFull {
+            self.arbitration.mask = true;
+            self.arbitration.timeout = true;
         }
     }
 }
 
 // The bus granted to a level and a channel; 15 is the processor's level.
+// kept: a rule of the project: a granted bus is a moved type of plain numbers
 pub struct GrantedBus {
     pub(crate) grants: u32,
     pub(crate) level: u8,
@@ -312,6 +276,7 @@ impl Drop for GrantedBus {
 
 impl GrantedBus {
     // Moves the unit of the grant, if its checks pass; whatever the answer, the bus is at rest again.
+    // kept: board, memory, rack and journal come as four references: a struct of them would put each clause behind a field's entry and exit
     pub fn carry<M: Memory, R: Rack>(
         mut self,
         board: &mut Board,
@@ -329,7 +294,11 @@ impl GrantedBus {
         if self.level == 15 {
             return (bus, Ok(false));
         }
-        match board.check(self.level, self.channel, memory, rack, journal.len()) {
+        let winner = Winner {
+            level: self.level,
+            channel: self.channel,
+        };
+        match board.check(winner, memory, rack, journal.len()) {
             Ok(transfer) => {
                 board.perform(transfer, memory, rack, journal);
                 (bus, Ok(true))

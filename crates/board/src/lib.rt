@@ -4,12 +4,14 @@ ghost use Rattle.std.specs.Prelude.{◌≡◌, ◌<◌, true, length, slice_set}
 ghost use Rattle.journal.specs.Layout.{listed, word as layout};
 
 use journal::Line;
+use winner::Winner;
 
 mod bus;
 mod carry;
 mod cases;
 mod ports;
 mod state;
+mod winner;
 
 pub use bus::{Bus, cycle, power_on};
 pub use carry::{GrantedBus, Motion, Transfer};
@@ -22,7 +24,5 @@ fn put_down(journal: &mut [u64], place: u32, line: Line)
     requires { (place < length journal.old) × (listed line ≡ true) }
     ensures { journal.new ≡ slice_set journal.old place (layout line) }
 {
-    if let Ok(word) = line.pack() {
-        journal[place as usize] = word;
-    }
+    journal[place as usize] = line.pack().unwrap();
 }

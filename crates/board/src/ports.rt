@@ -1,6 +1,8 @@
 ghost use Rattle.std.specs.Prelude.{◌≡◌};
+ghost use Rattle.std.specs.Option.{ok_or};
+ghost use Rattle.fault.specs.declared.Refusal.TheVariants.{NoSuchPort};
 ghost use Rattle.timer.specs.Timing.{control_answer, controlled};
-ghost use Rattle.board.specs.Ports.{port_of, bit, arbitration_byte, arbitration_written, masked_if, timed, tick_after, acknowledge_after, port61_written, at_port, done, port_written, port_read};
+ghost use Rattle.board.specs.Ports.{port_of, arbitration_byte, arbitration_written, masked_if, timed, tick_after, acknowledge_after, port61_written, at_port, done, port_written, port_read};
 ghost use Rattle.board.specs.State.{with_arbitration};
 
 use crate::{Arbitration, Board};
@@ -28,49 +30,41 @@ pub enum Port {
     SystemControlA,
 }
 
-impl Port {
-    fn decode(port: u16) -> Option<Port>
-        ensures { result ≡ port_of port }
-    {
+impl TryFrom<u16> for Port {
+    type Error = Refusal;
+
+    ghost try_from_gives = { λ port answer. answer ≡ ok_or (port_of port) NoSuchPort };
+
+    fn try_from(port: u16) -> Result<Port, Refusal> {
         match port {
-            0x18 => Some(Port::Function),
-            0x1A => Some(Port::Data),
-            0x40 => Some(Port::Count(CountPort::System)),
-            0x42 => Some(Port::Count(CountPort::Speaker)),
-            0x43 => Some(Port::Control),
-            0x44 => Some(Port::Count(CountPort::Watchdog)),
-            0x47 => Some(Port::WatchdogControl),
-            0x61 => Some(Port::SystemControlB),
-            0x90 => Some(Port::Arbiter),
-            0x92 => Some(Port::SystemControlA),
-            _ => None,
+            0x18 => Ok(Port::Function),
+            0x1A => Ok(Port::Data),
+            0x40 => Ok(Port::Count(CountPort::System)),
+            0x42 => Ok(Port::Count(CountPort::Speaker)),
+            0x43 => Ok(Port::Control),
+            0x44 => Ok(Port::Count(CountPort::Watchdog)),
+            0x47 => Ok(Port::WatchdogControl),
+            0x61 => Ok(Port::SystemControlB),
+            0x90 => Ok(Port::Arbiter),
+            0x92 => Ok(Port::SystemControlA),
+            _ => Err(Refusal::NoSuchPort),
         }
     }
 }
 
-fn bit(b: bool) -> u8
-    ensures { result ≡ bit b }
-{
-    if b { 1 } else { 0 }
-}
+// What port 0090 reads.
+impl From<Arbitration> for u8 {
+    ghost from_gives = { λ arbitration byte. byte ≡ arbitration_byte arbitration };
 
-// A refusal of the controller, at the port.
-fn at_port<T>(answer: Result<T, Refusal>, port: u16) -> Result<T, Fault>
-    ensures { result ≡ at_port answer port }
-{
-    match answer {
-        Ok(value) => Ok(value),
-        Err(refusal) => Err(Fault::own(refusal, u32::from(port))),
+    fn from(arbitration: Arbitration) -> u8 {
+        128 * u8::from(arbitration.bit7)
+            + 64 * u8::from(arbitration.mask)
+            + 32 * u8::from(arbitration.timeout)
+            + arbitration.winner % 16
     }
 }
 
 impl Arbitration {
-    fn byte(self) -> u8
-        ensures { result ≡ arbitration_byte self }
-    {
-        128 * bit(self.bit7) + 64 * bit(self.mask) + 32 * bit(self.timeout) + self.winner % 16
-    }
-
     fn write(&mut self, byte: u8)
         ensures { self.new ≡ arbitration_written self.old byte }
     {
@@ -85,9 +79,7 @@ impl Board {
     fn note_rise(&mut self, rose: bool)
         ensures { self.new ≡ with_arbitration self.old (masked_if rose self.old.arbitration) }
     {
-        if rose {
-            self.arbitration.mask = true;
-        }
+        self.arbitration.mask |= rose;
     }
 
     pub(crate) fn tick(&mut self)
@@ -124,31 +116,49 @@ impl Board {
         self.port61 = byte % 16;
     }
 
+    fn write(&mut self, port: u16, byte: u8) -> Result<(), Refusal>
+        ensures answer { at_port result port ≡ (port_written self.old port byte).answer }
+        ensures after { self.new ≡ (port_written self.old port byte).board }
+    {
+        match Port::try_from(port)? {
+            Port::Function => self.dma.write_function(&mut self.channels, byte),
+            Port::Data => self.dma.write_data(&mut self.channels, byte),
+            Port::Count(counter) => self.timers.write_count(counter, byte),
+            Port::Control => self.write_control(byte),
+            Port::WatchdogControl => self.timers.control_watchdog(byte),
+            Port::SystemControlB => {
+                self.write_system_control(byte);
+                Ok(())
+            }
+            Port::Arbiter => {
+                self.arbitration.write(byte);
+                Ok(())
+            }
+            Port::SystemControlA => Err(Refusal::NoSuchPort),
+        }
+    }
+
     pub(crate) fn write_port(&mut self, port: u16, byte: u8) -> Result<(), Fault>
         ensures answer { result ≡ (port_written self.old port byte).answer }
         ensures after { self.new ≡ (port_written self.old port byte).board }
     {
-        match Port::decode(port) {
-            Some(Port::Function) => at_port(
-                self.dma.write_function(&mut self.channels, byte),
-                port,
-            ),
-            Some(Port::Data) => at_port(self.dma.write_data(&mut self.channels, byte), port),
-            Some(Port::Count(counter)) => at_port(self.timers.write_count(counter, byte), port),
-            Some(Port::Control) => at_port(self.write_control(byte), port),
-            Some(Port::WatchdogControl) => at_port(self.timers.control_watchdog(byte), port),
-            Some(Port::SystemControlB) => {
-                self.write_system_control(byte);
-                Ok(())
+        self.write(port, byte)
+            .map_err(|refusal| Fault::own(refusal, u32::from(port)))
+    }
+
+    fn read(&mut self, port: u16) -> Result<u8, Refusal>
+        ensures answer { at_port result port ≡ (port_read self.old port).answer }
+        ensures after { self.new ≡ (port_read self.old port).board }
+    {
+        match Port::try_from(port)? {
+            Port::Data => self.dma.read_data(&self.channels),
+            Port::Count(counter) => self.timers.read_count(counter),
+            Port::SystemControlB => {
+                Ok(32 * u8::from(self.timers.speaker.out) + self.port61 % 16)
             }
-            Some(Port::Arbiter) => {
-                self.arbitration.write(byte);
-                Ok(())
-            }
-            Some(Port::SystemControlA) | None => Err(Fault::own(
-                Refusal::NoSuchPort,
-                u32::from(port),
-            )),
+            Port::Arbiter => Ok(u8::from(self.arbitration)),
+            Port::SystemControlA => Ok(16 * u8::from(self.timers.watchdog.out)),
+            Port::Function | Port::Control | Port::WatchdogControl => Err(Refusal::NoSuchPort),
         }
     }
 
@@ -156,15 +166,7 @@ impl Board {
         ensures answer { result ≡ (port_read self.old port).answer }
         ensures after { self.new ≡ (port_read self.old port).board }
     {
-        match Port::decode(port) {
-            Some(Port::Data) => at_port(self.dma.read_data(&self.channels), port),
-            Some(Port::Count(counter)) => at_port(self.timers.read_count(counter), port),
-            Some(Port::SystemControlB) => Ok(32 * bit(self.timers.speaker.out) + self.port61 % 16),
-            Some(Port::Arbiter) => Ok(self.arbitration.byte()),
-            Some(Port::SystemControlA) => Ok(16 * bit(self.timers.watchdog.out)),
-            Some(Port::Function | Port::Control | Port::WatchdogControl) | None => {
-                Err(Fault::own(Refusal::NoSuchPort, u32::from(port)))
-            }
-        }
+        self.read(port)
+            .map_err(|refusal| Fault::own(refusal, u32::from(port)))
     }
 }

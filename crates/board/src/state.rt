@@ -31,6 +31,7 @@ pub struct Board {
 }
 
 // All that a board holds, to be looked at.
+// kept: a Board that held its Registers would put one more field into each definition of specs/: the new form is no plainer
 #[derive(Clone, Copy)]
 pub struct Registers {
     pub channels: [Channel; 8],
@@ -47,16 +48,7 @@ impl Board {
     pub(crate) fn started(lines: u32) -> Board
         ensures { result ≡ started lines }
     {
-        let channels = [
-            Channel::fresh(0),
-            Channel::fresh(1),
-            Channel::fresh(2),
-            Channel::fresh(3),
-            Channel::fresh(4),
-            Channel::fresh(5),
-            Channel::fresh(6),
-            Channel::fresh(7),
-        ];
+        let channels = [0, 1, 2, 3, 4, 5, 6, 7].map(Channel::fresh);
         let arbitration = Arbitration {
             bit7: false,
             mask: false,
