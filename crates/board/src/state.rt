@@ -6,7 +6,7 @@ use dma::{Channel, Controller};
 use timer::Timers;
 
 // Port 0090: bits 7 to 5, and the level that won the bus last.
-#[derive(Clone, Copy)]
+#[derive(Clone, Copy, Debug, PartialEq, Eq)]
 pub struct Arbitration {
     // kept as written
     pub bit7: bool,
@@ -32,7 +32,7 @@ pub struct Board {
 
 // All that a board holds, to be looked at.
 // kept: a Board that held its Registers would put one more field into each definition of specs/: the new form is no plainer
-#[derive(Clone, Copy)]
+#[derive(Clone, Copy, Debug, PartialEq, Eq)]
 pub struct Registers {
     pub channels: [Channel; 8],
     pub dma: Controller,
