@@ -158,7 +158,7 @@ performed b m r j t u =
 
 -- bits 5 and 6 of port 0090
 abbrev pub with_failure : Arbitration → Arbitration
-with_failure a = record { bit7 = a.bit7; mask = true; timeout = true; winner = a.winner }
+with_failure a = record a { mask = true; timeout = true }
 
 -- a full journal leaves port 0090 as it was
 abbrev pub failing : Refusal → Board → Board

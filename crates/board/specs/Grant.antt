@@ -44,7 +44,7 @@ requested b r zero = b.dma.status
 requested b r (suc n) = cond (r.at (channel_at b n).level).line (marked (requested b r n) n Request) (requested b r n)
 
 abbrev pub with_winner : Arbitration → ℕ → Arbitration
-with_winner a l = record { bit7 = a.bit7; mask = a.mask; timeout = a.timeout; winner = l }
+with_winner a l = record a { winner = l }
 
 -- the board after a level has won
 abbrev pub won_by : Board → ℕ → Board

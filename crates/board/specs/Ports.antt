@@ -40,13 +40,13 @@ arbitration_byte a = 128 * bit a.bit7 + 64 * bit a.mask + 32 * bit a.timeout + a
 
 -- it keeps bits 7 and 6 as written; with bit 6 clear, bit 5 is zeroed
 abbrev pub arbitration_written : Arbitration → ℕ → Arbitration
-arbitration_written a v = record { bit7 = has v 128; mask = has v 64; timeout = has v 64 && a.timeout; winner = a.winner }
+arbitration_written a v = record a { bit7 = has v 128; mask = has v 64; timeout = has v 64 && a.timeout }
 
 -- Timers on the board.
 
 -- bit 6 of port 0090, where OUT 3 has risen
 abbrev pub masked_if : Bool → Arbitration → Arbitration
-masked_if rose a = record { bit7 = a.bit7; mask = cond rose true a.mask; timeout = a.timeout; winner = a.winner }
+masked_if rose a = record a { mask = cond rose true a.mask }
 
 -- the board with its timers put anew; a rise of OUT 3 sets bit 6 of port 0090
 abbrev pub timed : Board → Timers → Board

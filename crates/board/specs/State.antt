@@ -19,26 +19,26 @@ abbrev pub channel_at : Board → ℕ → Channel
 channel_at b n = nth_channel b.channels n
 
 abbrev pub with_channels : Board → List Channel → Board
-with_channels b cs = record { channels = cs; dma = b.dma; arbitration = b.arbitration; timers = b.timers; port61 = b.port61; lines = b.lines }
+with_channels b cs = record b { channels = cs }
 
 abbrev pub with_channel : Board → ℕ → Channel → Board
 with_channel b n c = with_channels b (slice_set b.channels n c)
 
 abbrev pub with_dma : Board → Controller → Board
-with_dma b k = record { channels = b.channels; dma = k; arbitration = b.arbitration; timers = b.timers; port61 = b.port61; lines = b.lines }
+with_dma b k = record b { dma = k }
 
 abbrev pub with_arbitration : Board → Arbitration → Board
-with_arbitration b a = record { channels = b.channels; dma = b.dma; arbitration = a; timers = b.timers; port61 = b.port61; lines = b.lines }
+with_arbitration b a = record b { arbitration = a }
 
 abbrev pub with_lines : Board → ℕ → Board
-with_lines b n = record { channels = b.channels; dma = b.dma; arbitration = b.arbitration; timers = b.timers; port61 = b.port61; lines = n }
+with_lines b n = record b { lines = n }
 
 abbrev pub with_timers : Board → Timers → Board
-with_timers b t = record { channels = b.channels; dma = b.dma; arbitration = b.arbitration; timers = t; port61 = b.port61; lines = b.lines }
+with_timers b t = record b { timers = t }
 
 -- bits 3-0 of port 0061
 abbrev pub with_port61 : Board → ℕ → Board
-with_port61 b v = record { channels = b.channels; dma = b.dma; arbitration = b.arbitration; timers = b.timers; port61 = v; lines = b.lines }
+with_port61 b v = record b { port61 = v }
 
 -- At power-on all is 0 but the masks; a channel's level is its number, and the last winner is 15.
 abbrev pub first_channels : List Channel
