@@ -1,4 +1,3 @@
 pub mod Least
 pub mod Searched
-pub mod Worked
 pub mod Arbitrating

@@ -2,6 +2,7 @@ ghost use Rattle.std.specs.Prelude.{◌≡◌, slice_index};
 ghost use Rattle.board.specs.Cases.{AddressCase, ByteCase, LineCase, WideCase, CountCase, CounterCase, OneCase, WatchdogCase, one_byte};
 
 // The worked cases of the rules; the answer is the journal word of the first of them.
+#[tactic(auto, unfolding(crate::specs::Grant::least, crate::specs::Grant::requested))]
 pub fn worked_cases_stand() -> u64
     ensures address { AddressCase }
     ensures byte { ByteCase }
