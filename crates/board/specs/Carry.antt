@@ -54,8 +54,8 @@ abbrev pub span : (ℕ → Answer) → Bool → ℕ → Answer
 span ask wide a = both (ask a) (cond wide (ask (after a 1)) (Ok tt))
 
 -- all that asking may answer at an address of 32 bits is what the function tells
-abbrev pub Told : (ℕ → Answer → Type 0) → (ℕ → Answer) → Type 0
-Told may_answer answers = (a : ℕ) (x : Answer) → a < 2 ^ 32 → may_answer a x → x ≡ answers a
+abbrev pub AnswersBy : (ℕ → Answer → Type 0) → (ℕ → Answer) → Type 0
+AnswersBy may_answer answers = (a : ℕ) (x : Answer) → a < 2 ^ 32 → may_answer a x → x ≡ answers a
 
 -- a verify asks for reading only
 abbrev pub memory_answer : Contents → Motion → Bool → ℕ → Answer

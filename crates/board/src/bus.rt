@@ -39,9 +39,9 @@ impl Board {
         ensures { self.new ≡ with_dma self.old (with_status self.old.dma (requested self.old (R.Rack.meaning rack.now) 8)) }
     {
         let Board { channels, dma, .. } = self;
-        for (n, channel) in channels.iter().enumerate() {
-            if rack.summary(channel.level).line {
-                dma.mark(n as u8, Mark::Request);
+        for (channel, registers) in channels.iter().enumerate() {
+            if rack.summary(registers.level).line {
+                dma.mark(channel as u8, Mark::Request);
             }
         }
     }

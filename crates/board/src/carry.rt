@@ -3,7 +3,7 @@ ghost use Rattle.dma.specs.Channels.{after};
 ghost use Rattle.journal.specs.Layout.{listed};
 ghost use Rattle.memory.specs.Meaning.{Answer, Contents};
 ghost use Rattle.rack.specs.Meaning.{Levels, fits, told};
-ghost use Rattle.board.specs.Carry.{wide_mode, motion_of, asked, serves, card_able_for, span, Told, memory_answer, checked, Ready, fetched, landed, unit_of, memory_moved, rack_moved, line_kind, line_of, counted, these, performed, failing, carried};
+ghost use Rattle.board.specs.Carry.{wide_mode, motion_of, asked, serves, card_able_for, span, AnswersBy, memory_answer, checked, Ready, fetched, landed, unit_of, memory_moved, rack_moved, line_kind, line_of, counted, these, performed, failing, carried};
 ghost use Rattle.board.specs.State.{channel_at};
 
 use crate::{Board, Bus, Winner, put_down};
@@ -74,7 +74,7 @@ fn ask_each<F: Fn(u32) -> Result<(), MemoryFault>>(
     at: u32,
 ) -> Result<(), MemoryFault>
     requires { F.IsAlwaysCallable ask }
-    ensures { (answers : ℕ → Answer) → Told (F.post ask) answers → result ≡ span answers wide at }
+    ensures { (answers : ℕ → Answer) → AnswersBy (F.post ask) answers → result ≡ span answers wide at }
 {
     ask(at)?;
     if wide { ask(advance(at, 1)) } else { Ok(()) }
