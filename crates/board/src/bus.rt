@@ -144,20 +144,16 @@ impl Bus {
             return Err(Fault::own(Refusal::JournalFull, address));
         }
         memory.write(address, byte)?;
-        let kind = LineKind::Store;
-        put_down(
-            journal,
-            board.lines,
-            Line {
-                kind,
-                channel: 0,
-                wide: false,
-                last: false,
-                level: 15,
-                address,
-                unit: u16::from(byte),
-            },
-        );
+        let line = Line {
+            kind: LineKind::Store,
+            channel: 0,
+            wide: false,
+            last: false,
+            level: 15,
+            address,
+            unit: u16::from(byte),
+        };
+        put_down(journal, board.lines, line);
         board.lines += 1;
         Ok(())
     }
