@@ -21,39 +21,39 @@ use Rattle.board.specs.declared.state.Board.{Board}
 use Rattle.board.specs.State.{channel_at}
 use Rattle.board.specs.Carry.{wide_mode, motion_of, transfer, checked, fetched, landed, unit_of, memory_moved, rack_moved, line_of, line_kind, counted, told_if, Outcome, these, performed, failing, outcome, carried}
 use Rattle.board.specs.Grant.{Granted, winner_of, serving, requested, won_by}
-use Rattle.runs.specs.World.{World, after_carry, carry_outcome, carried_or_refused}
+use Rattle.runs.specs.World.{World, world, after_carry, carry_outcome, carried_or_refused}
 use Rattle.runs.specs.Law.{words, is_store, post, posted, units, is_given, is_taken, Making, by_carry, making, is_line, of_channel, by_dma}
 use Rattle.runs.proofs.Step.{Served, idle, line, advanced, AllListed}
-use Rattle.runs.proofs.Sound.{Dog, Sound}
+use Rattle.runs.proofs.Sound.{Dog, Sound, sound_kept}
 use Rattle.runs.proofs.Tables.{set_small, other_stays}
 use Rattle.runs.proofs.Racks.{Fit, fit_first, gave_waiting, gave_taken, gave_fit, took_taken, took_waiting, took_fit, told_waiting, told_taken, told_fit}
 use Rattle.runs.proofs.Checks.{winner_low, server_low, passed, card_width, giver_gives, taker_takes}
 
--- the lines that an outcome owes
-abbrev pub owed_of : Outcome → List Making
-owed_of o = cond (is_line (carried_or_refused o.answer)) (by_carry o.board.arbitration.winner ∷ []) []
-
--- what an outcome of carry keeps
-pub record CarryStep (w : World) (o : Outcome) : Type 0 where
+-- what a change keeps that leaves the timers, and owes lines of these makings
+pub record LineStep (w v : World) (owed : List Making) : Type 0 where
   pub put : List Line
   pub fine : AllListed put
-  pub journal : take o.board.lines o.journal ≡ words w ++ map word put
-  pub bytes : o.memory.byte ≡ post w.memory.byte put
-  pub waiting : (l : ℕ) → (w.rack.at l).waiting ≡ units is_given l put ++ (o.rack.at l).waiting
-  pub taken : (l : ℕ) → (w.rack.at l).taken ++ units is_taken l put ≡ (o.rack.at l).taken
-  pub makes : map making put ≡ owed_of o
+  pub journal : words v ≡ words w ++ map word put
+  pub bytes : v.memory.byte ≡ post w.memory.byte put
+  pub waiting : (l : ℕ) → (w.rack.at l).waiting ≡ units is_given l put ++ (v.rack.at l).waiting
+  pub taken : (l : ℕ) → (w.rack.at l).taken ++ units is_taken l put ≡ (v.rack.at l).taken
+  pub makes : map making put ≡ owed
   pub silent : (i : ℕ) → (channel_at w.board i).masked ≡ true → of_channel i put ≡ []
-  pub served : (i : ℕ) → i < 8 → Served (channel_at w.board i) (channel_at o.board i) (of_channel i put)
-  pub timers : o.board.timers ≡ w.board.timers
-  pub holds : w.board.arbitration.mask ≡ true → o.board.arbitration.mask ≡ true
+  pub served : (i : ℕ) → i < 8 → Served (channel_at w.board i) (channel_at v.board i) (of_channel i put)
+  pub timers : v.board.timers ≡ w.board.timers
+  pub holds : w.board.arbitration.mask ≡ true → v.board.arbitration.mask ≡ true
   pub halts : w.board.arbitration.mask ≡ true → by_dma put ≡ []
-  pub sound : Sound (after_carry o)
+  pub sound : Sound v
+
+-- an outcome of a carry owes a line where its answer is yes
+abbrev pub CarryStep : World → Outcome → Type 0
+CarryStep w o = LineStep w (after_carry o) (cond (is_line (carried_or_refused o.answer)) (by_carry o.board.arbitration.winner ∷ []) [])
 
 -- no line
-no_line : (w : World) (b : Board) (a : Result Bool Fault) → Sound w → is_line (carried_or_refused a) ≡ false → b.channels ≡ w.board.channels → b.lines ≡ w.board.lines → b.timers ≡ w.board.timers
-    → (w.board.arbitration.mask ≡ true → b.arbitration.mask ≡ true) → CarryStep w (these b w.memory w.rack w.journal a)
+pub no_line : (w : World) (b : Board) → Sound w → b.channels ≡ w.board.channels → b.lines ≡ w.board.lines → b.timers ≡ w.board.timers
+    → (w.board.arbitration.mask ≡ true → b.arbitration.mask ≡ true) → LineStep w (world b w.memory w.rack w.journal) []
 unfolding post units of_channel by_dma AllListed
-no_line w b a s none c l t m =
+no_line w b s c l t m =
     record {
       put = [];
       fine = tt;
@@ -61,22 +61,18 @@ no_line w b a s none c l t m =
       bytes = refl;
       waiting = λ k. refl;
       taken = λ k. append-nil _;
-      makes = sym (cond-false (is_line (carried_or_refused a)) _ _ none);
+      makes = refl;
       silent = λ i h. refl;
       served = λ i h. idle refl (ap (λ (cs : List Channel). nth_channel cs i) c);
       timers = t;
       holds = m;
       halts = λ h. refl;
-      sound = record {
-        board = record {
-          eight = ap length c ∙ s.board.eight;
-          counts = λ i. subst (λ (cs : List Channel). (nth_channel cs i).count < 65536) (sym c) (s.board.counts i);
-          dog = subst (λ (u : Timers). Dog u.watchdog) (sym t) s.board.dog;
-        };
-        bytes = s.bytes;
-        fit = s.fit;
-      };
+      sound = record { board = sound_kept w.board b c (subst (λ (u : Timers). Dog u.watchdog) (sym t) s.board.dog) s.board; bytes = s.bytes; fit = s.fit };
     }
+
+-- bytes stay bytes
+pub put_small : (f : ℕ → ℕ) (a v : ℕ) → ((k : ℕ) → f k < 256) → v < 256 → (k : ℕ) → put_byte f a v k < 256
+put_small f a v h hv k = cond_both (eqb k a) v (f k) (λ (t : ℕ). t < 256) (λ e. hv) (λ e. h k)
 
 -- One unit.
 module _
@@ -241,9 +237,6 @@ module _
     fit_line Verify wd la g t = told_fit w.rack la l ok.fit
 
     -- bytes stay bytes
-    put_small : (f : ℕ → ℕ) (a v : ℕ) → ((k : ℕ) → f k < 256) → v < 256 → (k : ℕ) → put_byte f a v k < 256
-    put_small f a v h hv k = cond_both (eqb k a) v (f k) (λ (t : ℕ). t < 256) (λ e. hv) (λ e. h k)
-
     landed_small : (wd : Bool) (a u : ℕ) → fits wd u ≡ true → (k : ℕ) → (landed w.memory wd a u).byte k < 256
     landed_small true a u f = let h = ltb-true u 65536 f in put_small (put_byte w.memory.byte a (u % 256)) (onward a 1) (u / 256) (put_small w.memory.byte a (u % 256) ok.bytes (omega arith)) (omega arith)
     landed_small false a u f = put_small w.memory.byte a (u % 256) ok.bytes (omega arith)
@@ -288,26 +281,10 @@ module _
         }
 
 -- the refused checks show at port 0090, but for a full journal
-failing_channels : (why : Refusal) (b : Board) → (failing why b).channels ≡ b.channels
-failing_channels why b = go (eqb (number why) (number JournalFull))
-  where
-    go : (t : Bool) → (cond t b (record { channels = b.channels; dma = b.dma; arbitration = record { bit7 = b.arbitration.bit7; mask = true; timeout = true; winner = b.arbitration.winner }; timers = b.timers; port61 = b.port61; lines = b.lines })).channels ≡ b.channels
-    go true = refl
-    go false = refl
-
-failing_lines : (why : Refusal) (b : Board) → (failing why b).lines ≡ b.lines
-failing_lines why b = go (eqb (number why) (number JournalFull))
-  where
-    go : (t : Bool) → (cond t b (record { channels = b.channels; dma = b.dma; arbitration = record { bit7 = b.arbitration.bit7; mask = true; timeout = true; winner = b.arbitration.winner }; timers = b.timers; port61 = b.port61; lines = b.lines })).lines ≡ b.lines
-    go true = refl
-    go false = refl
-
-failing_timers : (why : Refusal) (b : Board) → (failing why b).timers ≡ b.timers
-failing_timers why b = go (eqb (number why) (number JournalFull))
-  where
-    go : (t : Bool) → (cond t b (record { channels = b.channels; dma = b.dma; arbitration = record { bit7 = b.arbitration.bit7; mask = true; timeout = true; winner = b.arbitration.winner }; timers = b.timers; port61 = b.port61; lines = b.lines })).timers ≡ b.timers
-    go true = refl
-    go false = refl
+failing_keeps : {A : Type 0} (part : Board → A) (why : Refusal) (b : Board)
+    → part (record { channels = b.channels; dma = b.dma; arbitration = record { bit7 = b.arbitration.bit7; mask = true; timeout = true; winner = b.arbitration.winner }; timers = b.timers; port61 = b.port61; lines = b.lines }) ≡ part b
+    → part (failing why b) ≡ part b
+failing_keeps part why b e = cond_both (eqb (number why) (number JournalFull)) b _ (λ z. part z ≡ part b) (λ _. refl) (λ _. e)
 
 -- the grant's board
 abbrev to_processor : World → Granted
@@ -344,16 +321,16 @@ carry_step w ok = by_mask w.board.arbitration.mask refl
         → CarryStep w (outcome o (winner_board w) w.memory w.rack w.journal)
     by_check (Ok t) off some e = moved_step w ok off some t e
     by_check (Err f) off some e =
-        no_line w (failing f.refusal (winner_board w)) (Err f) ok refl (failing_channels f.refusal (winner_board w)) (failing_lines f.refusal (winner_board w)) (failing_timers f.refusal (winner_board w))
+        no_line w (failing f.refusal (winner_board w)) ok (failing_keeps (λ b. b.channels) f.refusal (winner_board w) refl) (failing_keeps (λ b. b.lines) f.refusal (winner_board w) refl) (failing_keeps (λ b. b.timers) f.refusal (winner_board w) refl)
         (λ m. absurd (both_ways w.board.arbitration.mask off m))
 
     by_winner : (t : Bool) → w.board.arbitration.mask ≡ false → eqb (winner_of w.board w.rack) 15 ≡ t
         → CarryStep w (cond t (these (winner_board w) w.memory w.rack w.journal (Ok false))
         (outcome (checked (winner_board w) w.memory w.rack (length w.journal) (winner_of w.board w.rack) (serving w.board (winner_of w.board w.rack))) (winner_board w) w.memory w.rack w.journal))
-    by_winner true off e = no_line w (winner_board w) (Ok false) ok refl refl refl refl (λ m. m)
+    by_winner true off e = no_line w (winner_board w) ok refl refl refl (λ m. m)
     by_winner false off e = by_check _ off e refl
 
     by_mask : (t : Bool) → w.board.arbitration.mask ≡ t
         → CarryStep w (carried (cond t (to_processor w) (to_winner w)).board w.memory w.rack w.journal (cond t (to_processor w) (to_winner w)).level (cond t (to_processor w) (to_winner w)).channel)
-    by_mask true e = no_line w (won_by w.board 15) (Ok false) ok refl refl refl refl (λ m. m)
+    by_mask true e = no_line w (won_by w.board 15) ok refl refl refl (λ m. m)
     by_mask false e = by_winner (eqb (winner_of w.board w.rack) 15) e refl

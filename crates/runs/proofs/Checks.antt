@@ -1,6 +1,6 @@
 -- What carry's checks show of a transfer that passed them.
 use Rattle.std.proofs.Common.{◌≡◌, ℕ, ◌<◌, Bool, true, false, cond, not, ◌&&◌, ◌||◌, eqb, ltb, List, length, Ok, Err, sym, refl, ◌∙◌, subst, arith}
-use Rattle.std.proofs.lemmas.Bool.{and_parts, and_from, not-true, ltb-true, eqb-false, both_ways, cond-true, cond-false}
+use Rattle.std.proofs.lemmas.Bool.{and_parts, and_from, not-true, ltb-true, eqb-false, cond-true, cond-false}
 use Rattle.std.proofs.lemmas.Bool.Decides.{nat_tests}
 use Rattle.fault.specs.declared.Fault.{Fault}
 use Rattle.dma.specs.Channels.{has, memory_address}
@@ -56,7 +56,7 @@ passed b m r size l n t h =
 same_is : (x y : Bool) → same x y ≡ true → x ≡ y
 same_is true true e = refl
 same_is true false e = sym e
-same_is false true e = absurd (both_ways false refl e)
+same_is false true e = e
 same_is false false e = refl
 
 pub card_width : (mode : ℕ) (v : Level) → serves mode v ≡ true → v.wide ≡ wide_mode mode
@@ -67,11 +67,11 @@ card_width mode v e =
 able_giver : (k : Kind) (w : List ℕ) (room : ℕ) → is_giver k ≡ true → ready k (length w) room ≡ true → (is_giver k && ltb 0 (length w)) ≡ true
 able_giver Empty w room g e = g
 able_giver Giver w room g e = e
-able_giver Taker w room g e = absurd (both_ways false refl g)
+able_giver Taker w room g e = cc
 
 able_taker : (k : Kind) (w : List ℕ) (room u : ℕ) (wide : Bool) → is_taker k ≡ true → ready k (length w) room ≡ true → fits wide u ≡ true → (is_taker k && (ltb 0 room && fits wide u)) ≡ true
 able_taker Empty w room u wide g e f = g
-able_taker Giver w room u wide g e f = absurd (both_ways false refl g)
+able_taker Giver w room u wide g e f = cc
 able_taker Taker w room u wide g e f = and_from (ltb 0 room) (fits wide u) e f
 
 -- the kind and the ability, where units are moved
@@ -84,32 +84,20 @@ moving mode v e h =
   where
     go : (t : Bool) → t ≡ true → (not t || able v) ≡ true → able v ≡ true
     go true z s = s
-    go false z s = absurd (both_ways false refl z)
+    go false z s = cc
 
 pub giver_gives : (mode : ℕ) (v : Level) → serves mode v ≡ true → motion_of mode ≡ ToMemory → gives v ≡ true
 giver_gives mode v e k = go (has mode 4) (has mode 8) refl refl k
   where
     go : (t g : Bool) → has mode 4 ≡ t → has mode 8 ≡ g → cond t (cond g ToMemory ToCard) Verify ≡ ToMemory → gives v ≡ true
     go true true x y z = let m = moving mode v e x in able_giver v.kind v.waiting v.room (sym (cond-true (has mode 8) _ _ y) ∙ m.0) m.1
-    go true false x y z = absurd (not_both z)
-      where
-        not_both : ToCard ≡ ToMemory → ⊥
-        not_both w = let n : ◌≡◌ {A = ℕ} 0 1 = cc in omega arith
-    go false g x y z = absurd (not_both z)
-      where
-        not_both : Verify ≡ ToMemory → ⊥
-        not_both w = let n : ◌≡◌ {A = ℕ} 0 1 = cc in omega arith
+    go true false x y z = cc
+    go false g x y z = cc
 
 pub taker_takes : (mode : ℕ) (v : Level) (u : ℕ) → serves mode v ≡ true → motion_of mode ≡ ToCard → fits v.wide u ≡ true → takes v u ≡ true
 taker_takes mode v u e k f = go (has mode 4) (has mode 8) refl refl k
   where
     go : (t g : Bool) → has mode 4 ≡ t → has mode 8 ≡ g → cond t (cond g ToMemory ToCard) Verify ≡ ToCard → takes v u ≡ true
     go true false x y z = let m = moving mode v e x in able_taker v.kind v.waiting v.room u v.wide (sym (cond-false (has mode 8) _ _ y) ∙ m.0) m.1 f
-    go true true x y z = absurd (not_both z)
-      where
-        not_both : ToMemory ≡ ToCard → ⊥
-        not_both w = let n : ◌≡◌ {A = ℕ} 0 1 = cc in omega arith
-    go false g x y z = absurd (not_both z)
-      where
-        not_both : Verify ≡ ToCard → ⊥
-        not_both w = let n : ◌≡◌ {A = ℕ} 0 1 = cc in omega arith
+    go true true x y z = cc
+    go false g x y z = cc

@@ -26,7 +26,7 @@ use Rattle.board.specs.State.{channel_at}
 use Rattle.board.specs.Ports.{at_port, masked_if, answered_if, write_by, read_by, tick_after, acknowledge_after}
 use Rattle.runs.specs.World.{done_or_refused}
 use Rattle.runs.specs.Law.{is_done, names, reaches_watchdog, clears_mask}
-use Rattle.runs.proofs.Sound.{Dog, SoundBoard}
+use Rattle.runs.proofs.Sound.{Dog, SoundBoard, sound_kept}
 use Rattle.runs.proofs.Tables.{accepted, TableKept, function_kept, data_kept}
 
 -- What a change of the board alone keeps, up to what is said of the call: the channels it names, whether it reaches
@@ -52,12 +52,15 @@ stays_set : (r m : Bool) → m ≡ true → cond r true m ≡ true
 stays_set true m e = refl
 stays_set false m e = e
 
+-- a counter of counter 3's make, field by field
+as_made : (c : Counter) → Dog c → c ≡ dog c.phase c.newest c.standing c.odd c.out c.read_high
+as_made c d =
+    λ i. record { full = d.full_count i; mode = d.mode_0 i; access = d.low_bytes i; phase = c.phase; newest = c.newest; standing = c.standing; odd = c.odd; out = c.out; half = d.no_half i; read_high = c.read_high }
+
 -- counter 3 keeps its make over clocks
 clock_dog : (c : Counter) (g : Bool) → Dog c → Dog (stepped c (Clock g))
 clock_dog c g d =
-    let e : c ≡ dog c.phase c.newest c.standing c.odd c.out c.read_high =
-    λ i. record { full = d.full_count i; mode = d.mode_0 i; access = d.low_bytes i; phase = c.phase; newest = c.newest; standing = c.standing; odd = c.odd; out = c.out; half = d.no_half i; read_high = c.read_high } in
-    subst (λ (z : Counter). Dog (stepped z (Clock g))) (sym e) (by_phase c.phase g)
+    subst (λ (z : Counter). Dog (stepped z (Clock g))) (sym (as_made c d)) (by_phase c.phase g)
   where
     by_phase : (p : Phase) (g : Bool) → Dog (stepped (dog p c.newest c.standing c.odd c.out c.read_high) (Clock g))
     by_phase Unset g = record { full_count = refl; mode_0 = refl; low_bytes = refl; no_half = refl }
@@ -85,7 +88,7 @@ same_step named reached cleared b b' s l c t m =
       clock = λ r. no_rise b.timers b'.timers (ap (λ (u : Timers). rises b.timers.system.out u.system.out) t ∙ rises_same b.timers.system.out) (ap (λ (u : Timers). u.watchdog) t);
       fires = λ r. never_fires _ _ _ (ap (λ (u : Timers). u.watchdog.out) t);
       holds = m;
-      sound = record { eight = ap length c ∙ s.eight; counts = λ i. subst (λ (cs : List Channel). (nth cs i).count < 65536) (sym c) (s.counts i); dog = subst Dog (sym (ap (λ (u : Timers). u.watchdog) t)) s.dog };
+      sound = sound_kept b b' c (subst Dog (sym (ap (λ (u : Timers). u.watchdog) t)) s.dog) s;
     }
 
 -- the table of channels changed, and the timers did not
@@ -112,7 +115,7 @@ timers_step named reached cleared b b' s l c f a =
       clock = λ r. f;
       fires = λ r low high. ap (λ z. z.mask) a ∙ rising b.timers.watchdog.out b'.timers.watchdog.out b.arbitration.mask low high;
       holds = λ m e. ap (λ z. z.mask) a ∙ stays_set (out3_rises b.timers b'.timers) b.arbitration.mask m;
-      sound = record { eight = ap length c ∙ s.eight; counts = λ i. subst (λ (cs : List Channel). (nth cs i).count < 65536) (sym c) (s.counts i); dog = dog_follows b.timers b'.timers f s.dog };
+      sound = sound_kept b b' c (dog_follows b.timers b'.timers f s.dog) s;
     }
 
 -- the mask stays where OUT 3 does
@@ -139,9 +142,7 @@ refused_same c v p e = go (is_set_up c.phase) e
 -- counter 3 keeps its make over count bytes
 byte_dog : (c : Counter) (v : ℕ) → Dog c → Dog (stepped c (Byte v))
 byte_dog c v d =
-    let e : c ≡ dog c.phase c.newest c.standing c.odd c.out c.read_high =
-    λ i. record { full = d.full_count i; mode = d.mode_0 i; access = d.low_bytes i; phase = c.phase; newest = c.newest; standing = c.standing; odd = c.odd; out = c.out; half = d.no_half i; read_high = c.read_high } in
-    subst (λ (z : Counter). Dog (stepped z (Byte v))) (sym e) (by_phase c.phase)
+    subst (λ (z : Counter). Dog (stepped z (Byte v))) (sym (as_made c d)) (by_phase c.phase)
   where
     by_phase : (p : Phase) → Dog (stepped (dog p c.newest c.standing c.odd c.out c.read_high) (Byte v))
     by_phase Unset = record { full_count = refl; mode_0 = refl; low_bytes = refl; no_half = refl }
@@ -160,7 +161,7 @@ watchdog_step named reached cleared b b' s l c a y k d =
       clock = λ r. no_rise b.timers b'.timers (ap (λ (u : Counter). rises b.timers.system.out u.out) y ∙ rises_same b.timers.system.out) (k r);
       fires = λ r. never_fires _ _ _ (ap (λ (u : Counter). u.out) (k r));
       holds = λ m e. ap (λ z. z.mask) a ∙ m;
-      sound = record { eight = ap length c ∙ s.eight; counts = λ i. subst (λ (cs : List Channel). (nth cs i).count < 65536) (sym c) (s.counts i); dog = d };
+      sound = sound_kept b b' c d s;
     }
 
 not_back : (t : Bool) → not t ≡ false → t ≡ true

@@ -1,6 +1,6 @@
 -- What arrivals, gives, takes and being told the last unit leave at each level.
 use Rattle.std.proofs.Common.{◌≡◌, ℕ, Bool, true, false, cond, ◌&&◌, eqb, ltb, List, [], ◌∷◌, ◌++◌, length, get_or, drop, sym, refl, ap, ◌∙◌, subst, append-nil, arith}
-use Rattle.std.proofs.lemmas.Bool.{eqb-true, and_parts, both_ways, cond-true}
+use Rattle.std.proofs.lemmas.Bool.{eqb-true, and_parts, cond-true, cond_both}
 use Rattle.std.proofs.lemmas.Bool.Decides.{nat_tests}
 use Rattle.rack.specs.Meaning.{Level, Levels, arrival, giving, taking, last_told, is_giver, fits, all_fit, gives, takes, arrives, with_level, joined, emptied, filled, lined, gave, took}
 use Rattle.rack.proofs.Fit.{fit_push}
@@ -16,19 +16,11 @@ at_level f r l k v = go (eqb k l)
 
 -- a part that the other level shares stays
 stays_at : {A : Type 0} (f : Level → A) (r : Levels) (l k : ℕ) (v : Level) → f v ≡ f (r.at l) → f ((with_level r l v).at k) ≡ f (r.at k)
-stays_at f r l k v e = at_level f r l k v ∙ go (eqb k l) (eqb-true k l)
-  where
-    go : (t : Bool) → (t ≡ true → k ≡ l) → cond t (f v) (f (r.at k)) ≡ f (r.at k)
-    go true h = e ∙ ap (λ (z : ℕ). f (r.at z)) (sym (h refl))
-    go false h = refl
+stays_at f r l k v e = cond_both (eqb k l) v (r.at k) (λ z. f z ≡ f (r.at k)) (λ t. e ∙ ap (λ (z : ℕ). f (r.at z)) (sym (eqb-true k l t))) (λ t. refl)
 
 -- a property that holds of the level put in and of all before holds of all after
 all_at : (P : Level → Type 0) (r : Levels) (l : ℕ) (v : Level) → ((k : ℕ) → P (r.at k)) → P v → (k : ℕ) → P ((with_level r l v).at k)
-all_at P r l v h p k = go (eqb k l)
-  where
-    go : (t : Bool) → P (cond t v (r.at k))
-    go true = p
-    go false = h k
+all_at P r l v h p k = cond_both (eqb k l) v (r.at k) P (λ t. p) (λ t. h k)
 
 abbrev pub Fit : Level → Type 0
 Fit v = all_fit v.wide v.waiting ≡ true
@@ -86,7 +78,7 @@ told_fit r false l h k = h k
 
 -- Giving by a card that can.
 first_and_rest : (xs : List ℕ) → ltb 0 (length xs) ≡ true → xs ≡ get_or xs 0 0 ∷ drop 1 xs
-first_and_rest [] e = absurd (both_ways false refl e)
+first_and_rest [] e = cc
 first_and_rest (x ∷ xs) e = refl
 
 turned : (a b : ℕ) → eqb b a ≡ eqb a b

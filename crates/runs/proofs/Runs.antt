@@ -1,7 +1,10 @@
 -- The law over whole runs, from the laws of one step.
 use Rattle.std.proofs.Common.{◌≡◌, ℕ, zero, suc, ◌*◌, ◌%◌, ◌<◌, Bool, true, false, cond, not, ◌&&◌, eqb, leb, List, [], ◌∷◌, ◌++◌, map, length, get_or, drop, Ok, sym, refl, ap, ◌∙◌, subst, append_assoc, append-nil, arith}
 use mathlib.Core.List.{nil≢cons}
-use Rattle.std.proofs.lemmas.Bool.{eqb-true, eqb-false, eq-eqb, ne_eqb, both_ways, cond-false, cond-true, lt-leb, le-leb}
+use Rattle.std.proofs.Math.Seq.{drop-append_seam}
+use Rattle.std.proofs.lemmas.List.{map-append}
+use Rattle.std.specs.Cmp.{both_ways as same_tests}
+use Rattle.std.proofs.lemmas.Bool.{eqb-true, eqb-false, eq-eqb, both_ways, cond-false, cond-true, lt-leb, le-leb}
 use Rattle.std.proofs.lemmas.Bool.Decides.{nat_tests}
 use Rattle.dma.specs.declared.channel.Channel.{Channel}
 use Rattle.dma.specs.Channels.{after as onward, unit_bytes, memory_address, stepped}
@@ -35,10 +38,6 @@ post-++ : (f : ℕ → ℕ) (xs ys : List Line) → post f (xs ++ ys) ≡ post (
 unfolding post
 post-++ f [] ys = refl
 post-++ f (x ∷ xs) ys = post-++ (posted f x) xs ys
-
-map-++ : {A B : Type 0} (f : A → B) (xs ys : List A) → map f (xs ++ ys) ≡ map f xs ++ map f ys
-map-++ f [] ys = refl
-map-++ f (x ∷ xs) ys = ap (λ t. f x ∷ t) (map-++ f xs ys)
 
 -- a filter of two lists in a row
 keep-++ : {A : Type 0} (b : Bool) (x : A) (p q r : List A) → p ≡ q ++ r → cond b (x ∷ p) p ≡ cond b (x ∷ q) q ++ r
@@ -87,9 +86,9 @@ all-++ (x ∷ xs) ys p q = (p.0, all-++ xs ys p.1 q)
 -- Lines of no DMA are no units of a card.
 
 not_dma : (of : Kind → Bool) (k : Kind) → of Store ≡ false → is_store k ≡ true → of k ≡ false
-not_dma of CardToMemory e s = absurd (both_ways false refl s)
-not_dma of MemoryToCard e s = absurd (both_ways false refl s)
-not_dma of Verify e s = absurd (both_ways false refl s)
+not_dma of CardToMemory e s = cc
+not_dma of MemoryToCard e s = cc
+not_dma of Verify e s = cc
 not_dma of Store e s = e
 
 keep_none : (of : Kind → Bool) (x : Line) (l : ℕ) (p r : List ℕ) (q : List Line) (b : Bool) → of Store ≡ false → is_store x.kind ≡ b
@@ -113,11 +112,7 @@ onward_none a true = omega arith
 onward_none a false = omega arith
 
 eqb_alike : (a b c d : ℕ) → (a ≡ b → c ≡ d) → (c ≡ d → a ≡ b) → eqb a b ≡ eqb c d
-eqb_alike a b c d f g = go (eqb a b) refl
-  where
-    go : (t : Bool) → eqb a b ≡ t → eqb a b ≡ eqb c d
-    go true e = e ∙ sym (eq-eqb c d (f (eqb-true a b e)))
-    go false e = e ∙ sym (ne_eqb c d (λ q. eqb-false a b e (g q)))
+eqb_alike a b c d f g = same_tests (eqb a b) (eqb c d) (λ e. eq-eqb c d (f (eqb-true a b e))) (λ e. eq-eqb a b (g (eqb-true c d e)))
 
 none_in_sequence : (c : Channel) → InSequence c []
 none_in_sequence c = record { most = omega arith; address = λ k h. absurd (omega arith); last = λ k h. absurd (omega arith) }
@@ -171,22 +166,8 @@ unfolding Never run
 never_push test w [] c n = (tt, n.0)
 never_push test w (x ∷ xs) c n = let m = never_push test (after w x) xs c n.1 in ((n.0, m.0), m.1)
 
-drop_front : {A : Type 0} (xs ys : List A) → drop (length xs) (xs ++ ys) ≡ ys
-drop_front [] ys = refl
-drop_front (x ∷ xs) ys = drop_front xs ys
-
-length_map : {A B : Type 0} (f : A → B) (xs : List A) → length (map f xs) ≡ length xs
-length_map f [] = refl
-length_map f (x ∷ xs) = ap suc (length_map f xs)
-
 counts_some : (n : ℕ) → 0 < written 256 (n % 256)
 counts_some n = grind (arith, nat_tests)
-
-not_yet : (n k : ℕ) → k < n → leb n k ≡ false
-not_yet n k h = lt-leb n k h
-
-now_due : (n k : ℕ) → k ≡ n → leb n k ≡ true
-now_due n k e = le-leb n k (omega arith)
 
 -- what a run must know of single steps
 module _
@@ -218,16 +199,16 @@ module _
         log_words (after w c) (kept w c ok) cs
         ∙ ap (λ t. t ++ map word (log (after w c) (kept w c ok) cs)) (law w c ok).journal
         ∙ append_assoc (words w) (map word (law w c ok).put) (map word (log (after w c) (kept w c ok) cs))
-        ∙ ap (λ t. words w ++ t) (sym (map-++ word (law w c ok).put (log (after w c) (kept w c ok) cs)))
+        ∙ ap (λ t. words w ++ t) (sym (map-append word (law w c ok).put (log (after w c) (kept w c ok) cs)))
 
     new_words : (w : World) (ok : Sound w) (cs : List Call) → drop (length (words w)) (words (run w cs)) ≡ map word (log w ok cs)
-    new_words w ok cs = ap (drop (length (words w))) (log_words w ok cs) ∙ drop_front (words w) (map word (log w ok cs))
+    new_words w ok cs = ap (drop (length (words w))) (log_words w ok cs) ∙ drop-append_seam (words w) (map word (log w ok cs))
 
     since_log : (w : World) (ok : Sound w) (cs : List Call) → since w (run w cs) ≡ log w ok cs
     since_log w ok cs =
         ap (λ t. drop (length (lines w)) (map line_in t)) (log_words w ok cs)
-        ∙ ap (drop (length (lines w))) (map-++ line_in (words w) (map word (log w ok cs)))
-        ∙ drop_front (lines w) (map line_in (map word (log w ok cs)))
+        ∙ ap (drop (length (lines w))) (map-append line_in (words w) (map word (log w ok cs)))
+        ∙ drop-append_seam (lines w) (map line_in (map word (log w ok cs)))
         ∙ words_back (log w ok cs) (log_fine w ok cs)
 
     since_step : (w : World) (ok : Sound w) (c : Call) → since w (after w c) ≡ (law w c ok).put
@@ -273,7 +254,7 @@ module _
     unfolding log owed
     log_owed w ok [] = refl
     log_owed w ok (c ∷ cs) =
-        map-++ making (law w c ok).put (log (after w c) (kept w c ok) cs)
+        map-append making (law w c ok).put (log (after w c) (kept w c ok) cs)
         ∙ (λ i. (law w c ok).makes i ++ log_owed (after w c) (kept w c ok) cs i)
 
     posting : (w : World) (ok : Sound w) (cs : List Call) → Posting w cs (run w cs)
@@ -371,10 +352,10 @@ module _
         let a : World = after (run w past) (WritePort 0x44 n) in
         let at : Sound a = kept (run w past) (WritePort 0x44 n) here in
         let parts = never_push restarts a counting nth never in
-        let low : (run a counting).board.timers.watchdog.out ≡ false = out_3 (run w past) here n counting d parts.0 ∙ not_yet (written 256 (n % 256)) (unanswered a counting) few in
+        let low : (run a counting).board.timers.watchdog.out ≡ false = out_3 (run w past) here n counting d parts.0 ∙ lt-leb (written 256 (n % 256)) (unanswered a counting) few in
         let p = run_push a counting nth in
         let high : (after (run a counting) nth).board.timers.watchdog.out ≡ true =
-        ap (λ (v : World). v.board.timers.watchdog.out) (sym p) ∙ out_3 (run w past) here n (counting ++ (nth ∷ [])) d never ∙ now_due (written 256 (n % 256)) (unanswered a (counting ++ (nth ∷ []))) enough in
+        ap (λ (v : World). v.board.timers.watchdog.out) (sym p) ∙ out_3 (run w past) here n (counting ++ (nth ∷ [])) d never ∙ le-leb (written 256 (n % 256)) (unanswered a (counting ++ (nth ∷ []))) (omega arith) in
         let s : (after (run a counting) nth).board.arbitration.mask ≡ true = (law (run a counting) nth (sound_run a at counting)).fires parts.1 low high in
         let s₂ : (run a (counting ++ (nth ∷ []))).board.arbitration.mask ≡ true = ap (λ (v : World). v.board.arbitration.mask) p ∙ s in
         halted (run a (counting ++ (nth ∷ []))) (sound_run a at (counting ++ (nth ∷ []))) stretch s₂ unlifted

@@ -1,6 +1,7 @@
 -- The table of channels after a write to one of them.
-use Rattle.std.proofs.Common.{◌≡◌, ℕ, zero, suc, ◌<◌, Bool, true, false, cond, ◌&&◌, ◌||◌, eqb, ◌≢◌, List, [], ◌∷◌, length, set, Some, None, Ok, Err, Option, Result, sym, refl, ap, arith, length-set}
-use Rattle.std.proofs.lemmas.List.{get_or-set_other}
+use Rattle.std.proofs.Common.{◌≡◌, ℕ, zero, suc, ◌<◌, Bool, true, false, cond, ◌&&◌, ◌||◌, eqb, ◌≢◌, List, [], ◌∷◌, length, set, Some, None, Ok, Err, Option, Result, sym, refl, ◌∙◌, arith, length-set}
+use Rattle.std.proofs.Math.Bool.{and-true}
+use Rattle.std.proofs.lemmas.List.{get_or-set_other, length-map}
 use Rattle.std.proofs.lemmas.Bool.{eqb-false, or_parts, both_ways}
 use Rattle.std.proofs.lemmas.Bool.Decides.{nat_tests}
 use Rattle.fault.specs.declared.Refusal.{Refusal}
@@ -39,10 +40,6 @@ masked_small [] h i = h i
 masked_small (x ∷ xs) h zero = h 0
 masked_small (x ∷ xs) h (suc i) = masked_small xs (λ j. h (suc j)) i
 
-masked_length : (cs : List Channel) → length (all_masked cs) ≡ length cs
-masked_length [] = refl
-masked_length (x ∷ xs) = ap suc (masked_length xs)
-
 part_small : (p : Part) (c : Channel) (b : ℕ) → c.count < 65536 → b < 256 → (with_part p c b).count < 65536
 part_small IoLow c b h k = h
 part_small IoHigh c b h k = h
@@ -67,10 +64,6 @@ pub record TableKept (named : ℕ → Bool) (o : WriteOutcome) (cs : List Channe
 same_table : (named : ℕ → Bool) (a : Result (Unit {0}) Refusal) (k : Controller) (cs : List Channel) (p : ℕ) → TableKept named (record { answer = a; controller = k; channels = cs }) cs p
 same_table named a k cs p = record { stays = λ i e. refl; same_length = refl; small = λ h. h }
 
-and_true_left : (b : Bool) → (b && true) ≡ false → b ≡ false
-and_true_left true e = e
-and_true_left false e = e
-
 -- a function byte names its channel, a master clear every channel
 abbrev pub function_names : ℕ → ℕ → Bool
 function_names f i = eqb (command f) 13 || eqb (channel_of f) i
@@ -79,7 +72,7 @@ set_kept : (f : ℕ) (k : Controller) (cs : List Channel) (c : Channel) (p : ℕ
     → TableKept (function_names f) (record { answer = Ok tt; controller = k; channels = set cs (channel_of f) c }) cs p
 set_kept f k cs c p h =
     record {
-      stays = λ i e. other_stays cs (channel_of f) i c (or_parts (eqb (command f) 13) (eqb (channel_of f) i) (and_true_left (function_names f i) e)).1;
+      stays = λ i e. other_stays cs (channel_of f) i c (or_parts (eqb (command f) 13) (eqb (channel_of f) i) (sym (and-true (function_names f i)) ∙ e)).1;
       same_length = length-set cs (channel_of f) c;
       small = λ s. set_small cs (channel_of f) c s h;
     }
@@ -96,8 +89,8 @@ function_kept (Some SetMask) k cs f p s e = set_kept f _ cs (with_mask (nth_chan
 function_kept (Some ClearMask) k cs f p s e = set_kept f _ cs (with_mask (nth_channel cs (channel_of f)) false) p (s (channel_of f))
 function_kept (Some MasterClear) k cs f p s e =
     record {
-      stays = λ i q. absurd (both_ways (eqb (command f) 13) (or_parts (eqb (command f) 13) (eqb (channel_of f) i) (and_true_left (function_names f i) q)).0 (clears_by f k.pointer e));
-      same_length = masked_length cs;
+      stays = λ i q. absurd (both_ways (eqb (command f) 13) (or_parts (eqb (command f) 13) (eqb (channel_of f) i) (sym (and-true (function_names f i)) ∙ q)).0 (clears_by f k.pointer e));
+      same_length = length-map cs _;
       small = masked_small cs;
     }
 function_kept (Some Status) k cs f p s e = same_table (function_names f) _ k cs p
@@ -122,7 +115,7 @@ part_kept q k cs b p s h = go (takes_byte q b)
     go : (t : Bool) → TableKept (data_names k) (cond t yes (record { answer = Err NotListed; controller = k; channels = cs })) cs p
     go true =
         record {
-          stays = λ i e. other_stays cs n i c (and_true_left (data_names k i) e);
+          stays = λ i e. other_stays cs n i c (sym (and-true (data_names k i)) ∙ e);
           same_length = length-set cs n c;
           small = λ z. set_small cs n c z (part_small q (nth_channel cs n) b (s n) h);
         }

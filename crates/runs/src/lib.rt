@@ -49,6 +49,7 @@ pub struct Performed {
 }
 
 // One call.
+// kept: the four travel together; a struct of references needs one clause more, that it ends with the same four.
 #[tactic(auto, using(crate::proofs::Answering::byte_stays), unfolding(crate::specs::World::after, crate::specs::World::answer))]
 fn act<M: Memory, R: Rack>(
     bus: Bus,
@@ -109,6 +110,7 @@ pub fn perform_one<M: Memory, R: Rack>(
 // Performs the calls in turn on a board in use. Whatever list of calls has led to its board, memory, rack and journal
 // from an unused board, the law over runs holds of that list followed by this one. Without memory for the answers
 // nothing is performed.
+// kept: the same four; a struct that owned them would ask the caller for an owned journal.
 pub fn go_on<M: Memory, R: Rack>(
     heap: Global,
     mut bus: Bus,
@@ -158,6 +160,7 @@ pub fn perform<M: Memory, R: Rack>(
 }
 
 // The law's premises can be met: small runs, computed. The answer is the number of lines that the first of them puts down.
+#[tactic(auto, using(crate::proofs::Computed::small_runs))]
 pub fn examples_stand() -> u32
     ensures count { CountMet }
     ensures stop { StopMet }
