@@ -1,5 +1,5 @@
 -- The entries of a script: their names, their operands, and what a line reads as.
-use Rattle.std.specs.Prelude.{ℕ, ◌^◌, ◌<◌, ◌≤◌, Bool, true, false, cond, not, ◌&&◌, ◌||◌, List, [], ◌∷◌, length, Some, None, Ok, Err, codes, Option, Result, ok_or, unwrap_or, ◌==◌}
+use Rattle.std.specs.Prelude.{ℕ, ◌^◌, ◌<◌, ◌≤◌, Bool, true, false, cond, not, ◌&&◌, ◌||◌, List, [], ◌∷◌, Some, None, Ok, Err, codes, Option, Result, ok_or, unwrap_or}
 use Rattle.std.specs.Str.{bytes_eq}
 use Rattle.script.specs.declared.number.Base.{Base}
 use Rattle.script.specs.declared.number.Base.TheVariants.{Decimal, Hexadecimal}
@@ -11,7 +11,7 @@ use Rattle.script.specs.declared.Entry.TheVariants as entry
 use Rattle.script.specs.declared.Misread.{Misread}
 use Rattle.script.specs.declared.Misread.TheVariants.{UnknownEntry, TooFewWords, TooManyWords, BadNumber}
 use Rattle.script.specs.Number.{numeral}
-use Rattle.script.specs.Words.{before_comment, first_word, after_word}
+use Rattle.script.specs.Words.{is_empty, before_comment, first_word, word_of, after_word}
 
 -- the word of each name
 abbrev pub text_of : Name → List ℕ
@@ -128,29 +128,26 @@ built name.State a b = entry.State
 built name.Level a b = entry.Level a
 built name.Lines a b = entry.Lines
 
--- whether a text has no byte
-abbrev pub is_empty : List ℕ → Bool
-is_empty w = length w == 0
-
 -- whether there is nothing
 abbrev pub is_none : {X : Type 0} → Option X → Bool
 is_none None = true
 is_none (Some x) = false
 
 -- whether a word has to be there and is not
-abbrev pub lacks : Option Operand → List ℕ → Bool
+abbrev pub lacks : Option Operand → Option (List ℕ) → Bool
 lacks None w = false
-lacks (Some o) w = is_none o.absent && is_empty w
+lacks (Some o) w = is_none o.absent && is_none w
 
 -- whether a word is there that no operand takes
-abbrev pub exceeds : Option Operand → List ℕ → Bool
-exceeds None w = not (is_empty w)
+abbrev pub exceeds : Option Operand → Option (List ℕ) → Bool
+exceeds None w = not (is_none w)
 exceeds (Some o) w = false
 
 -- the number that a word gives for an operand
-abbrev pub operand_value : Option Operand → List ℕ → Option ℕ
+abbrev pub operand_value : Option Operand → Option (List ℕ) → Option ℕ
 operand_value None w = Some 0
-operand_value (Some o) w = cond (is_empty w) o.absent (numeral o.base o.limit w)
+operand_value (Some o) None = o.absent
+operand_value (Some o) (Some w) = numeral o.base o.limit w
 
 -- the entry, if both numbers are
 abbrev pub entry_with : Name → Option ℕ → Option ℕ → Result Entry Misread
@@ -159,16 +156,16 @@ entry_with n (Some a) None = Err BadNumber
 entry_with n (Some a) (Some b) = Ok (built n a b)
 
 -- the entry of a name and three words: first their number is tested, then the numbers they write
-abbrev pub entry_of : Name → List ℕ → List ℕ → List ℕ → Result Entry Misread
+abbrev pub entry_of : Name → Option (List ℕ) → Option (List ℕ) → Option (List ℕ) → Result Entry Misread
 entry_of n a b more =
     cond (lacks (first_of n) a || lacks (second_of n) b) (Err TooFewWords)
-    (cond (exceeds (first_of n) a || (exceeds (second_of n) b || not (is_empty more))) (Err TooManyWords)
+    (cond (exceeds (first_of n) a || (exceeds (second_of n) b || not (is_none more))) (Err TooManyWords)
     (entry_with n (operand_value (first_of n) a) (operand_value (second_of n) b)))
 
 -- the entry of a name, if it is one, and the words of a text
 abbrev pub entry_called : Result Name Misread → List ℕ → Result Entry Misread
 entry_called (Err why) rest = Err why
-entry_called (Ok n) rest = entry_of n (first_word rest) (first_word (after_word rest)) (first_word (after_word (after_word rest)))
+entry_called (Ok n) rest = entry_of n (word_of rest) (word_of (after_word rest)) (word_of (after_word (after_word rest)))
 
 -- an entry that was read, as one of the lines that may have none
 abbrev pub some_read : Result Entry Misread → Result (Option Entry) Misread

@@ -1,5 +1,5 @@
 -- How a line is parted into words.
-use Rattle.std.specs.Prelude.{ℕ, Bool, ◌||◌, List, drop, ◌==◌}
+use Rattle.std.specs.Prelude.{ℕ, Bool, cond, ◌||◌, List, length, drop, Some, None, Option, ◌==◌}
 use Rattle.std.specs.List.{prefix_len, position_or_len, before_first}
 
 -- space, tab and carriage return
@@ -21,6 +21,14 @@ from_word t = drop (prefix_len is_blank t) t
 -- the first word of a text, empty where there is none
 abbrev pub first_word : List ℕ → List ℕ
 first_word t = before_first is_blank (from_word t)
+
+-- whether a text has no byte
+abbrev pub is_empty : List ℕ → Bool
+is_empty w = length w == 0
+
+-- the first word of a text, if it has one
+abbrev pub word_of : List ℕ → Option (List ℕ)
+word_of t = cond (is_empty (first_word t)) None (Some (first_word t))
 
 -- what follows the first word
 abbrev pub after_word : List ℕ → List ℕ

@@ -1,4 +1,5 @@
 ghost use Rattle.std.specs.Prelude.{◌≡◌, ◌≤◌, IfOk};
+ghost use Rattle.std.specs.Option.{option_copied};
 ghost use Rattle.script.specs.Entries.{first_of, second_of, limit_of, built, entry_of, Within};
 
 use super::names::Name;
@@ -35,16 +36,21 @@ impl Name {
         }
     }
 
-    // The entry of the words that follow the name; a word that is not there is empty.
-    pub(crate) fn read(self, first: &str, second: &str, more: &str) -> Result<Entry, Misread>
-        ensures answer { result ≡ entry_of self first.now second.now more.now }
+    // The entry of the words that follow the name.
+    pub(crate) fn read(
+        self,
+        first: Option<&str>,
+        second: Option<&str>,
+        more: Option<&str>,
+    ) -> Result<Entry, Misread>
+        ensures answer { result ≡ entry_of self (option_copied first.entry) (option_copied second.entry) (option_copied more.entry) }
         ensures within { IfOk result Within }
     {
         let (one, two) = (self.first_operand(), self.second_operand());
         if is_lacking(one, first) || is_lacking(two, second) {
             return Err(Misread::TooFewWords);
         }
-        if is_surplus(one, first) || is_surplus(two, second) || !more.is_empty() {
+        if is_surplus(one, first) || is_surplus(two, second) || more.is_some() {
             return Err(Misread::TooManyWords);
         }
         let first = read_operand(one, first).ok_or(Misread::BadNumber)?;

@@ -6,7 +6,7 @@ ghost use Rattle.script.specs.Entries.{reading, WithinLine, is_rig_entry, told};
 use names::Name;
 use std::error::Error;
 use std::fmt;
-use words::{cut_comment, next_word};
+use words::{Words, cut_comment};
 
 mod build;
 mod names;
@@ -70,14 +70,14 @@ pub fn read_entry(line: &str) -> Result<Option<Entry>, Misread>
     ensures answer { result ≡ reading line.now }
     ensures within { IfOk result WithinLine }
 {
-    let (name, rest) = next_word(cut_comment(line));
-    if name.is_empty() {
+    let mut words = Words {
+        rest: cut_comment(line),
+    };
+    let Some(name) = words.next() else {
         return Ok(None);
-    }
+    };
     let name = name.parse::<Name>()?;
-    let (first, rest) = next_word(rest);
-    let (second, rest) = next_word(rest);
-    let (more, _) = next_word(rest);
+    let (first, second, more) = (words.next(), words.next(), words.next());
     name.read(first, second, more).map(Some)
 }
 

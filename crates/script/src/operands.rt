@@ -1,4 +1,5 @@
 ghost use Rattle.std.specs.Prelude.{◌≡◌, ◌≤◌, IfSome};
+ghost use Rattle.std.specs.Option.{option_copied};
 ghost use Rattle.script.specs.Entries.{required as needed, first_of, second_of, lacks, exceeds, operand_value, limit_of, AbsentWithin};
 
 use super::names::Name;
@@ -65,28 +66,28 @@ fn required(base: Base, limit: u32) -> Option<Operand>
 }
 
 // Whether the operand's word has to be there and is not.
-pub(crate) fn is_lacking(operand: Option<Operand>, word: &str) -> bool
-    ensures { result ≡ lacks operand word.now }
+pub(crate) fn is_lacking(operand: Option<Operand>, word: Option<&str>) -> bool
+    ensures { result ≡ lacks operand (option_copied word.entry) }
 {
-    operand.is_some_and(|taken| taken.absent.is_none() && word.is_empty())
+    operand.is_some_and(|taken| taken.absent.is_none()) && word.is_none()
 }
 
 // Whether there is a word and no operand to take it.
-pub(crate) fn is_surplus(operand: Option<Operand>, word: &str) -> bool
-    ensures { result ≡ exceeds operand word.now }
+pub(crate) fn is_surplus(operand: Option<Operand>, word: Option<&str>) -> bool
+    ensures { result ≡ exceeds operand (option_copied word.entry) }
 {
-    operand.is_none() && !word.is_empty()
+    operand.is_none() && word.is_some()
 }
 
 // The number that the word gives for the operand.
-pub(crate) fn read_operand(operand: Option<Operand>, word: &str) -> Option<u32>
-    ensures value { result ≡ operand_value operand word.now }
+pub(crate) fn read_operand(operand: Option<Operand>, word: Option<&str>) -> Option<u32>
+    ensures value { result ≡ operand_value operand (option_copied word.entry) }
     ensures within { AbsentWithin operand → IfSome result (λ n. n ≤ limit_of operand) }
 {
-    match operand {
-        Some(taken) if word.is_empty() => taken.absent,
-        Some(taken) => read_number(word, taken.base, taken.limit),
+    match (operand, word) {
+        (Some(taken), Some(word)) => read_number(word, taken.base, taken.limit),
+        (Some(taken), None) => taken.absent,
         // kept: with None here, each of the 18 arms that build an entry would have to unwrap its numbers
-        None => Some(0),
+        (None, _) => Some(0),
     }
 }

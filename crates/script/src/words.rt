@@ -1,7 +1,9 @@
-ghost use Rattle.std.specs.Prelude.{◌≡◌};
+ghost use Rattle.std.specs.Prelude.{◌≡◌, ◌≤◌, length};
+ghost use Rattle.std.specs.Option.{option_copied};
+ghost use Rattle.std.specs.Iterator.{at_most};
 ghost use Rattle.std.specs.List.{position_or_len};
 ghost use Rattle.std.specs.Str.{IsCharBoundary};
-ghost use Rattle.script.specs.Words.{is_blank, from_word, before_comment, first_word, after_word};
+ghost use Rattle.script.specs.Words.{is_blank, from_word, before_comment, word_of, after_word};
 
 // What parts the words of a line.
 const BLANKS: [char; 3] = [' ', '\t', '\r'];
@@ -15,7 +17,8 @@ pub(crate) fn cut_comment(line: &str) -> &str
 
 // The text from its first word on.
 fn skip_blanks(text: &str) -> &str
-    ensures { result.now ≡ from_word text.now }
+    ensures text { result.now ≡ from_word text.now }
+    ensures bound { length result.now ≤ length text.now }
 {
     text.trim_start_matches(BLANKS)
 }
@@ -28,11 +31,23 @@ fn word_len(text: &str) -> usize
     text.find(BLANKS).unwrap_or(text.len())
 }
 
-// The first word, empty where there is none, and what follows it.
-pub(crate) fn next_word(text: &str) -> (&str, &str)
-    ensures word { result.0.now ≡ first_word text.now }
-    ensures rest { result.1.now ≡ after_word text.now }
-{
-    let text = skip_blanks(text);
-    text.split_at(word_len(text))
+// The words of a text, one after the other.
+#[derive(Drop)]
+pub(crate) struct Words<'a> {
+    pub rest: &'a str,
+}
+
+impl<'a> Iterator for Words<'a> {
+    type Item = &'a str;
+
+    ghost next_gives = { λ words word after. (option_copied word ≡ word_of words.rest.now) × (after.rest.now ≡ after_word words.rest.now) };
+
+    ghost remaining = { λ words. at_most (length words.rest.now) };
+
+    fn next(&mut self) -> Option<&'a str> {
+        let text = skip_blanks(self.rest);
+        let (word, rest) = text.split_at(word_len(text));
+        self.rest = rest;
+        (!word.is_empty()).then_some(word)
+    }
 }

@@ -1,5 +1,5 @@
 use Rattle.script.proofs.Blanks.{trimmed}
 use Rattle.script.proofs.words.skip_blanks.Goals as goal
 
-pub returns : goal.returns
-returns c = trimmed _ _ c.trim_start_matches.ensures.matches
+pub returns-clause-text : goal.returns-clause-text
+returns-clause-text c = trimmed _ _ c.trim_start_matches.ensures.matches
