@@ -1,32 +1,30 @@
 -- What each entry of a script answers and leaves; an entry that is no call does nothing.
-use Rattle.std.specs.Prelude.{◌≡◌, ℕ, zero, suc, ◌-◌, Bool, true, false, Some, None, Ok, Err, Option, Result, slice_index}
+use Rattle.std.specs.Prelude.{◌≡◌, ℕ, zero, suc, ◌-◌, Bool, true, false, cond, Some, None, Ok, Err, is_err, Option, Result, slice_index}
 use Rattle.fault.specs.declared.Fault.{Fault}
 use Rattle.journal.specs.Lookup.{Found}
 use Rattle.runs.specs.declared.Call.{Call}
 use Rattle.runs.specs.declared.Call.TheVariants as call
-use Rattle.runs.specs.declared.Answer.{Answer as CallAnswer}
-use Rattle.runs.specs.declared.Answer.TheVariants as told
-use Rattle.runs.specs.World.{World, after, answer}
+use Rattle.runs.specs.declared.Reply.TheVariants as told
+use Rattle.runs.specs.World.{World, Answer as CallAnswer, after, answer}
 use Rattle.script.specs.declared.Entry.{Entry}
 use Rattle.script.specs.declared.Entry.TheVariants as entry
 use Rattle.bench.specs.declared.machine.Answer.{Answer}
-use Rattle.bench.specs.declared.machine.Answer.TheVariants.{Done, Byte, Line, Carried, NoLine, Refused, CarryRefused}
+use Rattle.bench.specs.declared.machine.Outcome.{Outcome}
+use Rattle.bench.specs.declared.machine.Outcome.TheVariants.{Done, Byte, Place, Word, NoLine}
 use Rattle.bench.specs.Machine.{words}
 
 -- the answers that refuse
 abbrev pub refuses : Answer → Bool
-refuses Done = false
-refuses (Byte v) = false
-refuses (Line place) = false
-refuses (Carried level word) = false
-refuses (NoLine level) = false
-refuses (Refused f) = true
-refuses (CarryRefused level f) = true
+refuses a = is_err a.outcome
+
+-- an entry that brings nothing
+abbrev pub done : Answer
+done = record { winner = None; outcome = Ok Done }
 
 -- the answer of the look-up
 abbrev pub line : Result ℕ Fault → Answer
-line (Ok place) = Line place
-line (Err f) = Refused f
+line (Ok place) = record { winner = None; outcome = Ok (Place place) }
+line (Err f) = record { winner = None; outcome = Err f }
 
 -- the call that an entry is, but for ticks and the look-up
 abbrev pub call_of : Entry → Option Call
@@ -49,14 +47,17 @@ call_of entry.State = None
 call_of (entry.Level l) = None
 call_of entry.Lines = None
 
--- the answer of a call as it is printed: a grant's with the level that won and the word of its line
+-- what a call brings: the word of its line where a carry put one down
+abbrev pub brought : CallAnswer → ℕ → Result Outcome Fault
+brought (Ok told.Done) word = Ok Done
+brought (Ok (told.Byte v)) word = Ok (Byte v)
+brought (Ok (told.Carried true)) word = Ok (Word word)
+brought (Ok (told.Carried false)) word = Ok NoLine
+brought (Err f) word = Err f
+
+-- the answer of a call as it is printed: a grant's with the level that won
 abbrev pub shown : CallAnswer → ℕ → ℕ → Bool → Answer
-shown told.Done level word grant = Done
-shown (told.Byte v) level word grant = Byte v
-shown (told.Carried true) level word grant = Carried level word
-shown (told.Carried false) level word grant = NoLine level
-shown (told.Refused f) level word true = CarryRefused level f
-shown (told.Refused f) level word false = Refused f
+shown answer level word grant = record { winner = cond grant (Some level) None; outcome = brought answer word }
 
 abbrev pub is_grant : Call → Bool
 is_grant (call.ReadPort p) = false
@@ -108,14 +109,14 @@ left_by entry.Lines w = w
 
 -- the answers of an entry; which of several lines the look-up gives is free
 abbrev pub Answers : World → Entry → Answer → Type 0
-Answers w (entry.Memory n) r = r ≡ Done
-Answers w (entry.Protect lo hi) r = r ≡ Done
-Answers w (entry.Scale l) r = r ≡ Done
-Answers w (entry.Printer l) r = r ≡ Done
-Answers w (entry.Journal n) r = r ≡ Done
+Answers w (entry.Memory n) r = r ≡ done
+Answers w (entry.Protect lo hi) r = r ≡ done
+Answers w (entry.Scale l) r = r ≡ done
+Answers w (entry.Printer l) r = r ≡ done
+Answers w (entry.Journal n) r = r ≡ done
 Answers w (entry.In p) r = r ≡ shown_of w (call.ReadPort p)
 Answers w (entry.Out p v) r = r ≡ shown_of w (call.WritePort p v)
-Answers w (entry.Tick n) r = r ≡ Done
+Answers w (entry.Tick n) r = r ≡ done
 Answers w entry.Acknowledge r = r ≡ shown_of w call.Acknowledge
 Answers w (entry.Arrive l u) r = r ≡ shown_of w (call.Arrive l u)
 Answers w (entry.Load a) r = r ≡ shown_of w (call.Load a)
@@ -123,6 +124,6 @@ Answers w (entry.Store a v) r = r ≡ shown_of w (call.Store a v)
 Answers w entry.Reset r = r ≡ shown_of w call.Reset
 Answers w entry.Grant r = r ≡ shown_of w call.Grant
 Answers w (entry.Find a) r = FoundLine w a r
-Answers w entry.State r = r ≡ Done
-Answers w (entry.Level l) r = r ≡ Done
-Answers w entry.Lines r = r ≡ Done
+Answers w entry.State r = r ≡ done
+Answers w (entry.Level l) r = r ≡ done
+Answers w entry.Lines r = r ≡ done

@@ -10,15 +10,15 @@ use Rattle.bench.specs.declared.lines.Wrong.TheVariants.{Misread, Misplaced}
 use Rattle.bench.specs.Rig.{part_of, placed, after}
 use Rattle.bench.specs.Rig.{told as misplaced_told}
 
--- the rig's answer to an entry
-abbrev pub entry_answer : Result (Unit {0}) RigMisplaced → Result (Unit {0}) Wrong
-entry_answer (Ok x) = Ok tt
-entry_answer (Err why) = Err (Misplaced why)
+-- the entry, where the rig takes it
+abbrev pub entry_answer : Entry → Result (Unit {0}) RigMisplaced → Result (Option Entry) Wrong
+entry_answer e (Ok x) = Ok (Some e)
+entry_answer e (Err why) = Err (Misplaced why)
 
 -- what a line answers: one with no entry is well, one that is no entry is wrong, an entry is for the rig to take
-abbrev pub line_answer : Rig → Result (Option Entry) ScriptMisread → Result (Unit {0}) Wrong
-line_answer r (Ok None) = Ok tt
-line_answer r (Ok (Some e)) = entry_answer (placed r (part_of e))
+abbrev pub line_answer : Rig → Result (Option Entry) ScriptMisread → Result (Option Entry) Wrong
+line_answer r (Ok None) = Ok None
+line_answer r (Ok (Some e)) = entry_answer e (placed r (part_of e))
 line_answer r (Err why) = Err (Misread why)
 
 -- what a line leaves of the rig

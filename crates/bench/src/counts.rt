@@ -5,7 +5,7 @@ use crate::machine::Answer;
 use script::Entry;
 
 // The calls so far, those refused, and the accepted arrivals at each level.
-#[derive(Clone, Copy)]
+#[derive(Clone, Copy, Default)]
 pub struct Counts {
     pub calls: u64,
     pub refused: u64,
@@ -19,10 +19,10 @@ struct Share {
     arrival: Option<u8>,
 }
 
-impl Share {
-    fn of(entry: Entry) -> Share
-        ensures { result ≡ share_of entry }
-    {
+impl From<Entry> for Share {
+    ghost from_gives = { λ entry share. share ≡ share_of entry };
+
+    fn from(entry: Entry) -> Share {
         let (calls, arrival) = match entry {
             Entry::Tick(count) => (count, None),
             Entry::Arrive(level, _) => (1, Some(level)),
@@ -44,19 +44,16 @@ impl Counts {
     pub fn new() -> Counts
         ensures { result ≡ at_first }
     {
-        Counts {
-            calls: 0,
-            refused: 0,
-            arrived: [0; 15],
-        }
+        Counts::default()
     }
 
     fn count_arrival(&mut self, level: u8)
         ensures { self.new ≡ with_arrival self.old level }
     {
+        // kept: with get_mut it stayed open what the whole array is after the write
         if level < 15 {
-            let so_far = self.arrived[level as usize];
-            self.arrived[level as usize] = so_far.saturating_add(1);
+            let place = usize::from(level);
+            self.arrived[place] = self.arrived[place].saturating_add(1);
         }
     }
 
@@ -64,7 +61,7 @@ impl Counts {
     pub fn count(&mut self, entry: Entry, answer: Answer)
         ensures { self.new ≡ counted self.old (share_of entry) answer }
     {
-        let share = Share::of(entry);
+        let share = Share::from(entry);
         self.calls = self.calls.saturating_add(u64::from(share.calls));
         if answer.is_refused() {
             self.refused = self.refused.saturating_add(1);

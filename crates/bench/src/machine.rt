@@ -1,11 +1,14 @@
-ghost use Rattle.std.specs.Prelude.{◌≡◌};
+ghost use Rattle.std.specs.Prelude.{◌≡◌, Some};
 ghost use Rattle.bench.specs.Machine.{world_of, words};
 ghost use Rattle.bench.specs.Calls.{refuses, line, shown};
+ghost use Rattle.bench.specs.Text.{outcome_text, answer_text};
 
 use board::Board;
 use fault::Fault;
 use memory::Memory;
 use rack::Rack;
+use runs::Reply;
+use std::fmt;
 
 // A board, and what its calls go to.
 #[derive(Drop)]
@@ -16,36 +19,40 @@ pub struct Machine<M: Memory, R: Rack> {
     pub journal: Vec<u64>,
 }
 
-// What a call answers.
-#[derive(Clone, Copy)]
-pub enum Answer {
+// What an entry brings if it is not refused.
+#[derive(Clone, Copy, Debug, PartialEq, Eq)]
+pub enum Outcome {
     Done,
     Byte(u8),
-    // the place of a line
-    Line(usize),
-    // the level that won the bus, and the word of the line
-    Carried(u8, u64),
-    NoLine(u8),
-    Refused(Fault),
-    CarryRefused(u8, Fault),
+    // the place of the line that was looked for
+    Place(usize),
+    // the word of the line that a carry put down
+    Word(u64),
+    // a carry put down no line
+    NoLine,
+}
+
+// What an entry answers.
+#[derive(Clone, Copy, Debug, PartialEq, Eq)]
+pub struct Answer {
+    // for a grant the level that won the bus
+    pub winner: Option<u8>,
+    pub outcome: Result<Outcome, Fault>,
 }
 
 impl Answer {
     pub fn is_refused(self) -> bool
         ensures { result ≡ refuses self }
     {
-        match self {
-            Answer::Refused(_) | Answer::CarryRefused(_, _) => true,
-            _ => false,
-        }
+        self.outcome.is_err()
     }
 
-    pub(crate) fn line(res: Result<usize, Fault>) -> Answer
-        ensures { result ≡ line res }
+    pub(crate) fn line(found: Result<usize, Fault>) -> Answer
+        ensures { result ≡ line found }
     {
-        match res {
-            Ok(place) => Answer::Line(place),
-            Err(fault) => Answer::Refused(fault),
+        Answer {
+            winner: None,
+            outcome: found.map(Outcome::Place),
         }
     }
 
@@ -53,13 +60,41 @@ impl Answer {
     pub(crate) fn shown(answer: runs::Answer, level: u8, word: u64, grant: bool) -> Answer
         ensures { result ≡ shown answer level word grant }
     {
-        match (answer, grant) {
-            (runs::Answer::Done, _) => Answer::Done,
-            (runs::Answer::Byte(byte), _) => Answer::Byte(byte),
-            (runs::Answer::Carried(true), _) => Answer::Carried(level, word),
-            (runs::Answer::Carried(false), _) => Answer::NoLine(level),
-            (runs::Answer::Refused(fault), true) => Answer::CarryRefused(level, fault),
-            (runs::Answer::Refused(fault), false) => Answer::Refused(fault),
+        let outcome = answer.map(|reply| match reply {
+            Reply::Done => Outcome::Done,
+            Reply::Byte(byte) => Outcome::Byte(byte),
+            Reply::Carried(true) => Outcome::Word(word),
+            Reply::Carried(false) => Outcome::NoLine,
+        });
+        let winner = if grant { Some(level) } else { None };
+        Answer { winner, outcome }
+    }
+}
+
+impl fmt::Display for Outcome {
+    ghost output = { λ outcome. Some (outcome_text outcome) };
+
+    fn fmt<W: fmt::Write>(&self, f: &mut fmt::Formatter<W>) -> fmt::Result {
+        match self {
+            Outcome::Done => write!(f, "ok"),
+            Outcome::Byte(byte) => write!(f, "{byte:02X}"),
+            Outcome::Place(place) => write!(f, "line {place}"),
+            Outcome::Word(word) => write!(f, "line {word:016X}"),
+            Outcome::NoLine => write!(f, "no line"),
+        }
+    }
+}
+
+impl fmt::Display for Answer {
+    ghost output = { λ answer. Some (answer_text answer) };
+
+    fn fmt<W: fmt::Write>(&self, f: &mut fmt::Formatter<W>) -> fmt::Result {
+        if let Some(level) = self.winner {
+            write!(f, "level {level} ")?;
+        }
+        match self.outcome {
+            Ok(outcome) => write!(f, "{outcome}"),
+            Err(fault) => write!(f, "{fault}"),
         }
     }
 }

@@ -1,10 +1,12 @@
-ghost use Rattle.std.specs.Prelude.{◌≡◌};
+ghost use Rattle.std.specs.Prelude.{◌≡◌, Some};
 ghost use Rattle.bench.specs.Rig.{bare, part_of, is_given, with_part, placed, after, told};
 
 use script::Entry;
+use std::error::Error;
+use std::fmt;
 
 // What a script lays out before its first call.
-#[derive(Clone, Copy)]
+#[derive(Clone, Copy, Default)]
 pub struct Rig {
     pub memory: Option<u32>,
     // from the first address up to but not the second
@@ -18,22 +20,24 @@ pub struct Rig {
 }
 
 // Why an entry may not stand where it stands.
-#[derive(Clone, Copy)]
+#[derive(Clone, Copy, Debug, PartialEq, Eq)]
 pub enum Misplaced {
     GivenTwice,
     AfterCall,
 }
 
-impl Misplaced {
-    pub fn text(self) -> &'static str
-        ensures { result.now ≡ told self }
-    {
-        match self {
+impl fmt::Display for Misplaced {
+    ghost output = { λ misplaced. Some (told misplaced) };
+
+    fn fmt<W: fmt::Write>(&self, f: &mut fmt::Formatter<W>) -> fmt::Result {
+        f.write_str(match self {
             Misplaced::GivenTwice => "entry given twice",
             Misplaced::AfterCall => "rig entry after the first call",
-        }
+        })
     }
 }
+
+impl Error for Misplaced {}
 
 // An entry that lays out a part of the rig.
 #[derive(Clone, Copy)]
@@ -46,6 +50,7 @@ enum Part {
 }
 
 impl Part {
+    // kept: a TryFrom would need an error for the entries that lay out none, which no caller looks at
     fn of(entry: Entry) -> Option<Part>
         ensures { result ≡ part_of entry }
     {
@@ -65,15 +70,7 @@ impl Rig {
     pub fn new() -> Rig
         ensures { result ≡ bare }
     {
-        Rig {
-            memory: None,
-            protect: None,
-            first_scale: None,
-            second_scale: None,
-            printer: None,
-            journal: None,
-            closed: false,
-        }
+        Rig::default()
     }
 
     // Whether the part has been given as often as it may.
