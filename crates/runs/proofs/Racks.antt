@@ -3,7 +3,7 @@ use Rattle.std.proofs.Common.{◌≡◌, ℕ, Bool, true, false, cond, ◌&&◌,
 use Rattle.std.proofs.lemmas.Bool.{eqb-true, and_parts, cond-true, cond_both}
 use Rattle.std.proofs.lemmas.Bool.Decides.{nat_tests}
 use Rattle.rack.specs.Meaning.{Level, Levels, arrival, giving, taking, last_told, is_giver, fits, all_fit, gives, takes, arrives, with_level, joined, emptied, filled, lined, gave, took}
-use Rattle.rack.proofs.Fit.{fit_push}
+use Rattle.std.proofs.lemmas.List.Folds.{list_all-append}
 use Rattle.board.specs.Carry.{told_if}
 
 -- a part of a level after another level was put in
@@ -60,7 +60,7 @@ pub arrived_fit : (r : Levels) (l u : ℕ) (t : Bool) → arrives (r.at l) u ≡
 arrived_fit r l u true e h k =
     let p = and_parts (is_giver (r.at l).kind) (ltb 0 (r.at l).room && fits (r.at l).wide u) e in
     let q = and_parts (ltb 0 (r.at l).room) (fits (r.at l).wide u) p.1 in
-    all_at Fit r l (joined (r.at l) u (r.rule l (r.at l) (arrival u))) h (fit_push (r.at l).wide (r.at l).waiting u (h l) q.1) k
+    all_at Fit r l (joined (r.at l) u (r.rule l (r.at l) (arrival u))) h (rw (list_all-append, h l, q.1)) k
 arrived_fit r l u false e h k = h k
 
 -- Being told the last unit.

@@ -125,8 +125,10 @@ pub fn go_on<M: Memory, R: Rack>(
     ensures law { OnOk result.1 (GoesOn (world board.old (M.Memory.meaning memory.old) (R.Rack.meaning rack.old) journal.old) calls.now (world board.new (M.Memory.meaning memory.new) (R.Rack.meaning rack.new) journal.new)) }
     ensures unaltered { OnErr result.1 (world board.new (M.Memory.meaning memory.new) (R.Rack.meaning rack.new) journal.new ≡ world board.old (M.Memory.meaning memory.old) (R.Rack.meaning rack.old) journal.old) }
 {
-    let Ok(mut answers) = Vec::with_capacity(heap, calls.len()) else {
-        return (bus, Err(AllocError));
+    // kept: `?` could not hand the bus back
+    let mut answers = match Vec::with_capacity(heap, calls.len()) {
+        Ok(answers) => answers,
+        Err(error) => return (bus, Err(error)),
     };
     for call in calls {
         let (next, answer) = act(bus, board, memory, rack, journal, *call);
