@@ -4,8 +4,8 @@ use Rattle.memory.specs.declared.flat.FlatMemory.{FlatMemory}
 use Rattle.memory.specs.declared.protected.Protected.{Protected}
 use Rattle.memory.specs.Meaning.{Contents}
 use Rattle.memory.specs.Makes.{flat, guarded, flat_meaning, protected_meaning}
-use Rattle.rack.specs.declared.weighing.card.WeighingCard.{WeighingCard}
-use Rattle.rack.specs.declared.printer.card.TicketPrinter.{TicketPrinter}
+use Rattle.rack.specs.declared.weighing.WeighingCard.{WeighingCard}
+use Rattle.rack.specs.declared.printer.TicketPrinter.{TicketPrinter}
 use Rattle.rack.specs.declared.pair.Pair.{Pair}
 use Rattle.rack.specs.Meaning.{Levels}
 use Rattle.rack.specs.Makes.{one_card, weighing, weighing_line, printing, printing_line, pair}
