@@ -1,9 +1,9 @@
-// What calls answer, in numbers that can be compared, and boards on which steps are played.
+// What calls answer, with their refusals in numbers, and boards on which steps are played.
 use board::{Board, Bus, Registers, power_on};
 use fault::Fault;
 use memory::{FlatMemory, Memory, Protected};
 use rack::{Pair, Rack, TicketPrinter, WeighingCard};
-use runs::{Answer, Call, perform_one};
+use runs::{Call, Reply, perform_one};
 use std::alloc::{AllocError, Global};
 use std::process::Abort;
 use std::test::Fail;
@@ -18,35 +18,18 @@ mod resets;
 // A refusal's number, its place and its layer.
 type Refused = (u8, u32, u8);
 
-// A byte, 0 where a call gives nothing, or the number of lines that a carry puts down.
-type Said = Result<u8, Refused>;
-
 // A call and the answer that it has to have.
-type Step = (Call, Said);
+type Step = (Call, Result<Reply, Refused>);
+
+const DONE: Result<Reply, Refused> = Ok(Reply::Done);
+
+// A carry that puts a line down.
+const LINE: Result<Reply, Refused> = Ok(Reply::Carried(true));
+
+const NO_LINE: Result<Reply, Refused> = Ok(Reply::Carried(false));
 
 fn numbers(fault: Fault) -> Refused {
     (u8::from(fault.refusal), fault.place, fault.layer)
-}
-
-// What an operation that gives nothing says.
-fn done(res: Result<(), Fault>) -> Said {
-    match res {
-        Ok(()) => Ok(0),
-        Err(fault) => Err(numbers(fault)),
-    }
-}
-
-fn said(answer: Answer) -> Said {
-    match answer {
-        Answer::Done => Ok(0),
-        Answer::Byte(byte) => Ok(byte),
-        Answer::Carried(line) => Ok(line as u8),
-        Answer::Refused(fault) => Err(numbers(fault)),
-    }
-}
-
-fn check_said(rt: &impl Abort, answer: Said, wanted: Said) {
-    assert_eq!(rt; answer, wanted);
 }
 
 // Performs the steps in turn, up to the first that is answered otherwise; the registers after them.
@@ -62,7 +45,7 @@ fn play<M: Memory, R: Rack>(
     for (place, (call, wanted)) in steps.iter().enumerate() {
         let (next, answer) = perform_one(bus, &mut board, memory, rack, journal, *call);
         bus = next;
-        assert_eq!(rt; said(answer), *wanted, "step {place}");
+        assert_eq!(rt; answer.map_err(numbers), *wanted, "step {place}");
     }
     board.registers()
 }
@@ -136,6 +119,6 @@ fn check_lines(
     steps: &[Step],
     lines: u32,
 ) -> Result<(), Fail> {
-    assert!(rt; run(rt, heap, rig, steps)?.lines == lines);
+    assert_eq!(rt; run(rt, heap, rig, steps)?.lines, lines);
     Ok(())
 }

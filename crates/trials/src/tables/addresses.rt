@@ -1,5 +1,5 @@
-use super::{Opened, Rig, Step, check_lines};
-use runs::Call;
+use super::{DONE, LINE, Opened, Rig, Step, check_lines};
+use runs::{Call, Reply};
 use std::test::Fail;
 
 // The scale's words go to FFFFFF.
@@ -12,17 +12,17 @@ static WHOLE: Rig = Rig {
 };
 
 static AROUND: [Step; 11] = [
-    (Call::Arrive(5, 0xABCD), Ok(0)),
-    (Call::Grant, Ok(1)),
-    (Call::Load(0xFF_FFFF), Ok(0xCD)),
-    (Call::Load(0), Ok(0xAB)),
-    (Call::Load(1), Ok(0)),
-    (Call::WritePort(0x18, 0x35), Ok(0)),
-    (Call::ReadPort(0x1A), Ok(1)),
-    (Call::ReadPort(0x1A), Ok(0)),
-    (Call::ReadPort(0x1A), Ok(0)),
-    (Call::Store(0xFF_FFFF, 9), Ok(0)),
-    (Call::Load(0xFF_FFFF), Ok(9)),
+    (Call::Arrive(5, 0xABCD), DONE),
+    (Call::Grant, LINE),
+    (Call::Load(0xFF_FFFF), Ok(Reply::Byte(0xCD))),
+    (Call::Load(0), Ok(Reply::Byte(0xAB))),
+    (Call::Load(1), Ok(Reply::Byte(0))),
+    (Call::WritePort(0x18, 0x35), DONE),
+    (Call::ReadPort(0x1A), Ok(Reply::Byte(1))),
+    (Call::ReadPort(0x1A), Ok(Reply::Byte(0))),
+    (Call::ReadPort(0x1A), Ok(Reply::Byte(0))),
+    (Call::Store(0xFF_FFFF, 9), DONE),
+    (Call::Load(0xFF_FFFF), Ok(Reply::Byte(9))),
 ];
 
 // The printer is sent what stands from 0 on.
@@ -35,14 +35,14 @@ static ONE_BYTE: Rig = Rig {
 };
 
 static PAST_IT: [Step; 8] = [
-    (Call::Store(0, 0x41), Ok(0)),
-    (Call::Load(0), Ok(0x41)),
+    (Call::Store(0, 0x41), DONE),
+    (Call::Load(0), Ok(Reply::Byte(0x41))),
     (Call::Load(1), Err((5, 1, 3))),
     (Call::Store(1, 0x41), Err((5, 1, 3))),
-    (Call::Grant, Ok(1)),
+    (Call::Grant, LINE),
     (Call::Grant, Err((5, 1, 3))),
-    (Call::ReadPort(0x90), Ok(0x63)),
-    (Call::Load(0), Ok(0x41)),
+    (Call::ReadPort(0x90), Ok(Reply::Byte(0x63))),
+    (Call::Load(0), Ok(Reply::Byte(0x41))),
 ];
 
 #[test]

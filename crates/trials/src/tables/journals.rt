@@ -1,4 +1,4 @@
-use super::{Refused, Rig, Step, check_lines, numbers};
+use super::{DONE, NO_LINE, Refused, Rig, Step, check_lines, numbers};
 use fault::Fault;
 use journal::{Kind, Line, find_writer};
 use runs::Call;
@@ -8,9 +8,9 @@ use std::test::Fail;
 
 // So many stores, one too many, and the processor's grant, which asks for no room.
 fn stores(heap: Global, room: u32) -> Result<Vec<Step>, AllocError> {
-    let mut steps = vec![in heap; (Call::Store(3, 7), Ok(0)); room as usize]?;
+    let mut steps = vec![in heap; (Call::Store(3, 7), DONE); room as usize]?;
     steps.push((Call::Store(3, 1), Err((7, 3, 0))))?;
-    steps.push((Call::Grant, Ok(0)))?;
+    steps.push((Call::Grant, NO_LINE))?;
     Ok(steps)
 }
 
@@ -52,11 +52,7 @@ static NO_LINES: [(u64, u32); 8] = [
 
 // A word or a place.
 fn check_number(rt: &impl Abort, answer: Result<u64, Fault>, wanted: Result<u64, Refused>) {
-    let answer = match answer {
-        Ok(number) => Ok(number),
-        Err(fault) => Err(numbers(fault)),
-    };
-    assert_eq!(rt; answer, wanted);
+    assert_eq!(rt; answer.map_err(numbers), wanted);
 }
 
 fn repacked(word: u64) -> Result<u64, Fault> {

@@ -1,35 +1,32 @@
-use super::{Said, check_said, done, numbers};
+use super::{Refused, numbers};
 use board::power_on;
 use std::process::Abort;
 
 // An unused board reads a port.
-fn read(port: u16) -> Said {
+fn read(port: u16) -> Result<u8, Refused> {
     let (mut board, bus) = power_on();
-    match bus.read_port(&mut board, port) {
-        Ok(byte) => Ok(byte),
-        Err(fault) => Err(numbers(fault)),
-    }
+    bus.read_port(&mut board, port).map_err(numbers)
 }
 
 // An unused board takes a byte, after a function byte.
-fn write(function: u8, port: u16, byte: u8) -> Said {
+fn write(function: u8, port: u16, byte: u8) -> Result<(), Refused> {
     let (mut board, bus) = power_on();
     let _ = bus.write_port(&mut board, 0x18, function);
-    done(bus.write_port(&mut board, port, byte))
+    bus.write_port(&mut board, port, byte).map_err(numbers)
 }
 
 // What reading a port answers, and what writing 10 to a control port or 00 to any other does.
-fn expected(port: u16) -> (Said, Said) {
-    let absent = Err((1, u32::from(port), 0));
-    let unset = Err((3, u32::from(port), 0));
+fn expected(port: u16) -> (Result<u8, Refused>, Result<(), Refused>) {
+    let absent = (1, u32::from(port), 0);
+    let unset = (3, u32::from(port), 0);
     match port {
-        0x18 | 0x43 | 0x47 => (absent, Ok(0)),
-        0x1A => (Ok(0), Ok(0)),
-        0x40 | 0x42 | 0x44 => (unset, unset),
-        0x61 => (Ok(0x20), Ok(0)),
-        0x90 => (Ok(0x0F), Ok(0)),
-        0x92 => (Ok(0), absent),
-        _ => (absent, absent),
+        0x18 | 0x43 | 0x47 => (Err(absent), Ok(())),
+        0x1A => (Ok(0), Ok(())),
+        0x40 | 0x42 | 0x44 => (Err(unset), Err(unset)),
+        0x61 => (Ok(0x20), Ok(())),
+        0x90 => (Ok(0x0F), Ok(())),
+        0x92 => (Ok(0), Err(absent)),
+        _ => (Err(absent), Err(absent)),
     }
 }
 
@@ -48,14 +45,35 @@ fn every_port_both_ways(rt: HostRuntime) {
 
 // Whether a port takes a byte after a function byte.
 fn lists(function: u8, port: u16, byte: u8) -> bool {
-    match (port, function, byte) {
-        (0x18, _, 0x00..=0x07 | 0x80 | 0x84 | 0x90..=0x97 | 0xA0..=0xA7 | 0xD0..=0xD7) => true,
-        (0x18, _, 0x20..=0x7F) => byte % 16 < 8,
-        (0x43, _, 0x10 | 0x14 | 0x16 | 0x20 | 0x24 | 0x26 | 0x30 | 0x34 | 0x36) => true,
-        (0x43, _, 0x90 | 0x94 | 0x96 | 0xA0 | 0xA4 | 0xA6 | 0xB0 | 0xB4 | 0xB6) => true,
-        (0x47, _, 0x10) => true,
-        (0x1A, 0x73, 0x00 | 0x04 | 0x08 | 0x0C | 0x40 | 0x44 | 0x48 | 0x4C) => true,
-        (0x1A, 0x84, 0..=14) => true,
+    match (port, function) {
+        (0x18, _) => match byte {
+            0x20..=0x7F => byte % 16 < 8,
+            _ =>
+                matches!(byte, 0x00..=0x07 | 0x80 | 0x84 | 0x90..=0x97 | 0xA0..=0xA7 | 0xD0..=0xD7),
+        },
+        (0x43, _) => matches!(
+            byte,
+            0x10 | 0x14
+                | 0x16
+                | 0x20
+                | 0x24
+                | 0x26
+                | 0x30
+                | 0x34
+                | 0x36
+                | 0x90
+                | 0x94
+                | 0x96
+                | 0xA0
+                | 0xA4
+                | 0xA6
+                | 0xB0
+                | 0xB4
+                | 0xB6
+        ),
+        (0x47, _) => byte == 0x10,
+        (0x1A, 0x73) => matches!(byte, 0x00 | 0x04 | 0x08 | 0x0C | 0x40 | 0x44 | 0x48 | 0x4C),
+        (0x1A, 0x84) => byte <= 14,
         _ => false,
     }
 }
@@ -67,9 +85,9 @@ fn count_listed(rt: &impl Abort, function: u8, port: u16) -> u32 {
         let answer = write(function, port, byte);
         if lists(function, port, byte) {
             taken = taken.saturating_add(1);
-            check_said(rt, answer, Ok(0));
+            assert_eq!(rt; answer, Ok(()));
         } else {
-            check_said(rt, answer, Err((2, u32::from(port), 0)));
+            assert_eq!(rt; answer, Err((2, u32::from(port), 0)));
         }
     }
     taken
@@ -84,6 +102,6 @@ fn only_listed_bytes_are_taken(rt: HostRuntime) {
         (0x73, 0x1A, 8),
         (0x84, 0x1A, 15),
     ] {
-        assert!(rt; count_listed(&rt, function, port) == number);
+        assert_eq!(rt; count_listed(&rt, function, port), number);
     }
 }

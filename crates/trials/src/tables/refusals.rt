@@ -1,7 +1,7 @@
-use super::{Opened, Rig, Said, Step, check_lines, check_said, numbers, said};
+use super::{DONE, LINE, NO_LINE, Opened, Refused, Rig, Step, check_lines, numbers};
 use fault::Fault;
 use memory::{Beneath, FlatMemory, Memory, MemoryFault, Protected, Reason};
-use runs::Call;
+use runs::{Call, Reply};
 use std::test::Fail;
 
 // The scale's words at a channel for bytes.
@@ -18,46 +18,46 @@ static REFUSED: [Step; 42] = [
     (Call::WritePort(0x18, 0x18), Err((2, 0x18, 0))),
     (Call::ReadPort(0x40), Err((3, 0x40, 0))),
     (Call::ReadPort(0x1A), Err((3, 0x1A, 0))),
-    (Call::WritePort(0x43, 0x14), Ok(0)),
+    (Call::WritePort(0x43, 0x14), DONE),
     (Call::WritePort(0x40, 1), Err((4, 0x40, 0))),
     (Call::Load(0x10), Err((5, 0x10, 3))),
     (Call::Store(0x10, 1), Err((5, 0x10, 3))),
     (Call::Store(4, 1), Err((6, 4, 2))),
     (Call::Store(9, 1), Err((6, 9, 1))),
-    (Call::Load(9), Ok(0)),
+    (Call::Load(9), Ok(Reply::Byte(0))),
     (Call::Arrive(3, 1), Err((9, 3, 0))),
     (Call::Arrive(15, 1), Err((10, 15, 0))),
     (Call::Arrive(255, 1), Err((10, 255, 0))),
     (Call::Load(0x100_0000), Err((10, 0x100_0000, 0))),
     (Call::Store(0x100_0000, 1), Err((10, 0x100_0000, 0))),
-    (Call::Arrive(5, 0xABCD), Ok(0)),
+    (Call::Arrive(5, 0xABCD), DONE),
     (Call::Grant, Err((8, 5, 0))),
-    (Call::ReadPort(0x90), Ok(0x65)),
-    (Call::Grant, Ok(0)),
+    (Call::ReadPort(0x90), Ok(Reply::Byte(0x65))),
+    (Call::Grant, NO_LINE),
     // words, with the high byte at 10, at 4 and at 8
-    (Call::WritePort(0x18, 0x75), Ok(0)),
-    (Call::WritePort(0x1A, 0x4C), Ok(0)),
-    (Call::WritePort(0x90, 0), Ok(0)),
-    (Call::WritePort(0x18, 0x25), Ok(0)),
-    (Call::WritePort(0x1A, 0x0F), Ok(0)),
+    (Call::WritePort(0x18, 0x75), DONE),
+    (Call::WritePort(0x1A, 0x4C), DONE),
+    (Call::WritePort(0x90, 0), DONE),
+    (Call::WritePort(0x18, 0x25), DONE),
+    (Call::WritePort(0x1A, 0x0F), DONE),
     (Call::Grant, Err((5, 0x10, 3))),
-    (Call::ReadPort(0x90), Ok(0x65)),
-    (Call::WritePort(0x90, 0), Ok(0)),
-    (Call::WritePort(0x18, 0x25), Ok(0)),
-    (Call::WritePort(0x1A, 3), Ok(0)),
+    (Call::ReadPort(0x90), Ok(Reply::Byte(0x65))),
+    (Call::WritePort(0x90, 0), DONE),
+    (Call::WritePort(0x18, 0x25), DONE),
+    (Call::WritePort(0x1A, 3), DONE),
     (Call::Grant, Err((6, 4, 2))),
-    (Call::WritePort(0x90, 0), Ok(0)),
-    (Call::WritePort(0x18, 0x25), Ok(0)),
-    (Call::WritePort(0x1A, 7), Ok(0)),
+    (Call::WritePort(0x90, 0), DONE),
+    (Call::WritePort(0x18, 0x25), DONE),
+    (Call::WritePort(0x1A, 7), DONE),
     (Call::Grant, Err((6, 8, 1))),
-    (Call::WritePort(0x90, 0), Ok(0)),
+    (Call::WritePort(0x90, 0), DONE),
     // no room, which comes before what memory says and after 10
-    (Call::Store(0, 1), Ok(0)),
+    (Call::Store(0, 1), DONE),
     (Call::Store(1, 1), Err((7, 1, 0))),
     (Call::Store(4, 1), Err((7, 4, 0))),
     (Call::Store(0x100_0000, 1), Err((10, 0x100_0000, 0))),
     (Call::Grant, Err((7, 5, 0))),
-    (Call::ReadPort(0x90), Ok(0x05)),
+    (Call::ReadPort(0x90), Ok(Reply::Byte(0x05))),
 ];
 
 #[test]
@@ -66,15 +66,14 @@ fn refusals_1_to_10(rt: HostRuntime) -> Result<(), Fail> {
 }
 
 // What a write says.
-fn write<M: Memory>(memory: &mut M, at: u32) -> Said {
-    match memory.write(at, 1) {
-        Ok(()) => Ok(0),
-        Err(fault) => Err(numbers(Fault::from(fault))),
-    }
+fn write<M: Memory>(memory: &mut M, at: u32) -> Result<(), Refused> {
+    memory
+        .write(at, 1)
+        .map_err(|fault| numbers(Fault::from(fault)))
 }
 
 // Past the end of the flat memory, and at 4 in the innermost protecting one.
-fn layers(mut flat: FlatMemory) -> [Said; 6] {
+fn layers(mut flat: FlatMemory) -> [Result<(), Refused>; 6] {
     let alone = write(&mut flat, 16);
     let mut one = Protected::new(flat, 4, 5);
     let beneath_one = write(&mut one, 16);
@@ -89,26 +88,29 @@ fn layers(mut flat: FlatMemory) -> [Said; 6] {
 #[test]
 fn layers_count_the_memories_above(rt: HostRuntime) -> Result<(), Fail> {
     let said = layers(FlatMemory::new(vec![in rt.alloc(); 0; 16]?));
-    check_said(&rt, said[0], Err((5, 16, 1)));
-    check_said(&rt, said[1], Err((5, 16, 2)));
-    check_said(&rt, said[2], Err((5, 16, 3)));
-    check_said(&rt, said[3], Err((6, 4, 1)));
-    check_said(&rt, said[4], Err((6, 4, 2)));
-    check_said(&rt, said[5], Err((6, 4, 3)));
+    let wanted = [
+        Err((5, 16, 1)),
+        Err((5, 16, 2)),
+        Err((5, 16, 3)),
+        Err((6, 4, 1)),
+        Err((6, 4, 2)),
+        Err((6, 4, 3)),
+    ];
+    assert_eq!(rt; said, wanted);
     Ok(())
 }
 
-fn rise(above: u16) -> Said {
+fn rise(above: u16) -> Refused {
     let mut fault = MemoryFault::own(Reason::Protected, 7);
     for _ in 0..above {
         fault = MemoryFault::from(Beneath(fault));
     }
-    Err(numbers(Fault::from(fault)))
+    numbers(Fault::from(fault))
 }
 
 #[test]
 fn layer_255_is_the_last(rt: HostRuntime) {
     for (above, layer) in [(0, 1), (1, 2), (253, 254), (254, 255), (300, 255)] {
-        check_said(&rt, rise(above), Err((6, 7, layer)));
+        assert_eq!(rt; rise(above), (6, 7, layer));
     }
 }
