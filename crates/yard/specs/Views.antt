@@ -8,6 +8,7 @@ use Rattle.dma.specs.declared.channel.Channel.{Channel}
 use Rattle.dma.specs.declared.controller.Controller.{Controller}
 use Rattle.dma.specs.Channels.{memory_address}
 use Rattle.timer.specs.declared.counter.Setting.{Setting}
+use Rattle.timer.specs.Counting.{mode_number, access_bits}
 use Rattle.board.specs.declared.state.Arbitration.{Arbitration}
 use Rattle.board.specs.declared.state.Registers.{Registers}
 use Rattle.board.specs.Ports.{bit}
@@ -30,7 +31,7 @@ controller_text c =
 -- a counter that is not set up shows OUT alone
 abbrev pub setting_text : Option Setting → List ℕ
 setting_text None = codes " not set up"
-setting_text (Some s) = codes " mode " ++ (decimal s.mode ++ (codes " bytes " ++ (decimal s.bytes ++ (codes " standing " ++ decimal s.standing))))
+setting_text (Some s) = codes " mode " ++ (decimal (mode_number s.mode) ++ (codes " bytes " ++ (decimal (access_bits s.access) ++ (codes " standing " ++ decimal s.standing))))
 
 -- OUT, and what is set up
 abbrev pub counter_text : ℕ → Bool → Option Setting → List ℕ

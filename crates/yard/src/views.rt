@@ -82,7 +82,9 @@ impl fmt::Display for CounterView {
             Some(setting) => write!(
                 f,
                 "counter {number}: out {out} mode {} bytes {} standing {}",
-                setting.mode, setting.bytes, setting.standing
+                u8::from(setting.mode),
+                u8::from(setting.access),
+                setting.standing
             ),
             None => write!(f, "counter {number}: out {out} not set up"),
         }
@@ -183,35 +185,11 @@ pub fn write_level<W: Write, R: Rack>(out: &mut W, rack: &R, level: u8) -> io::R
     }
 }
 
-#[derive(Drop)]
-struct LineView(Line);
-
-impl fmt::Display for LineView {
-    fn fmt<W: fmt::Write>(&self, f: &mut fmt::Formatter<W>) -> fmt::Result {
-        let Line {
-            kind,
-            channel,
-            wide,
-            last,
-            level,
-            address,
-            unit,
-        } = self.0;
-        write!(
-            f,
-            "kind {} channel {channel} wide {} last {} level {level} address {address:06X} unit {unit:04X}",
-            kind.number(),
-            u8::from(wide),
-            u8::from(last),
-        )
-    }
-}
-
 // The lines put down so far.
 pub fn write_lines<W: Write>(out: &mut W, words: &[u64]) -> io::Result<()> {
     for (place, word) in words.iter().enumerate() {
         match Line::unpack(*word) {
-            Ok(line) => writeln!(out, "line {place}: {word:016X} {}", LineView(line))?,
+            Ok(line) => writeln!(out, "line {place}: {word:016X} {line}")?,
             Err(_) => writeln!(out, "line {place}: {word:016X} no line")?,
         }
     }
