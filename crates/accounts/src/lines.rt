@@ -9,7 +9,7 @@ use journal::Line;
 const LIMIT: usize = 65536;
 
 // Totals of lines.
-pub trait Count {
+pub(crate) trait Count {
     // which lines are counted
     type Of: Copy;
 
@@ -27,7 +27,7 @@ pub trait Count {
 
 // The totals with the lines of the first 65,536 words, passing over what is no line.
 #[tactic(auto, unfolding(crate::specs::Lines::counted))]
-pub fn count_lines<T: Count + Drop>(words: &[u64], none: T, of: T::Of) -> T
+pub(crate) fn count_lines<T: Count + Drop>(words: &[u64], none: T, of: T::Of) -> T
     requires { (n : ℕ) → 0 < n → T.Below none n }
     ensures { result ≡ counted (T.with_line of) none words.now }
 {

@@ -44,7 +44,7 @@ impl<W: Write + Drop, M: Memory + Drop, R: Rack + Drop> Player<W, M, R> {
 }
 
 // Plays the entries on a machine before its first call, and closes with the accounts.
-pub fn play<W: Write + Drop, M: Memory + Drop, R: Rack + Drop>(
+pub(crate) fn play<W: Write + Drop, M: Memory + Drop, R: Rack + Drop>(
     out: W,
     steps: &[Step],
     machine: Machine<M, R>,

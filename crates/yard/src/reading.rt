@@ -8,14 +8,14 @@ use std::{env, fmt, fs, io};
 
 // An entry and the line that it stands in.
 #[derive(Drop)]
-pub struct Step<'a> {
+pub(crate) struct Step<'a> {
     pub entry: Entry,
     pub line: Words<'a>,
 }
 
 // A line's words up to its comment, with single blanks between.
 #[derive(Clone, Copy)]
-pub struct Words<'a>(&'a str);
+pub(crate) struct Words<'a>(&'a str);
 
 impl fmt::Display for Words<'_> {
     fn fmt<W: fmt::Write>(&self, f: &mut fmt::Formatter<W>) -> fmt::Result {
@@ -40,7 +40,7 @@ fn read_step<'a>(rig: &mut Rig, line: &'a str) -> Result<Option<Step<'a>>, Wrong
 }
 
 // Takes the lines of a script into the rig and collects the entries; each bad line is told.
-pub fn read_steps<'a>(
+pub(crate) fn read_steps<'a>(
     heap: Global,
     rig: &mut Rig,
     wrongs: &mut String,
@@ -57,7 +57,7 @@ pub fn read_steps<'a>(
 }
 
 // The text of the file named as the argument, or of standard input.
-pub fn read_text(rt: &HostRuntime) -> io::Result<String> {
+pub(crate) fn read_text(rt: &HostRuntime) -> io::Result<String> {
     let mut bytes = Vec::new(rt.alloc());
     match env::args(rt)?.nth(1) {
         Some(path) => fs::open(rt, path.as_str())?.read_to_end(&mut bytes)?,

@@ -47,7 +47,7 @@ fn write_level<W: Write, R: Rack>(
     }
 }
 
-pub fn write_accounts<W: Write, M: Memory, R: Rack>(
+pub(crate) fn write_accounts<W: Write, M: Memory, R: Rack>(
     out: &mut W,
     counts: &Counts,
     machine: &Machine<M, R>,

@@ -115,7 +115,7 @@ impl fmt::Display for PortsView<'_> {
 }
 
 // The channels, the DMA controller, the counters and the ports.
-pub fn write_state<W: Write>(out: &mut W, registers: &Registers) -> io::Result<()> {
+pub(crate) fn write_state<W: Write>(out: &mut W, registers: &Registers) -> io::Result<()> {
     for (number, channel) in registers.channels.iter().enumerate() {
         writeln!(out, "{}", ChannelView { number, channel })?;
     }
@@ -172,7 +172,7 @@ fn write_card<W: Write, R: Rack>(
 }
 
 // What stands at a level.
-pub fn write_level<W: Write, R: Rack>(out: &mut W, rack: &R, level: u8) -> io::Result<()> {
+pub(crate) fn write_level<W: Write, R: Rack>(out: &mut W, rack: &R, level: u8) -> io::Result<()> {
     write!(out, "level {level}: ")?;
     if level > 14 {
         return writeln!(out, "{}", Fault::own(Refusal::TooLarge, u32::from(level)));
@@ -186,7 +186,7 @@ pub fn write_level<W: Write, R: Rack>(out: &mut W, rack: &R, level: u8) -> io::R
 }
 
 // The lines put down so far.
-pub fn write_lines<W: Write>(out: &mut W, words: &[u64]) -> io::Result<()> {
+pub(crate) fn write_lines<W: Write>(out: &mut W, words: &[u64]) -> io::Result<()> {
     for (place, word) in words.iter().enumerate() {
         match Line::unpack(*word) {
             Ok(line) => writeln!(out, "line {place}: {word:016X} {line}")?,
