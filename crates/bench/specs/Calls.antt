@@ -1,5 +1,5 @@
 -- What each entry of a script answers and leaves; an entry that is no call does nothing.
-use Rattle.std.specs.Prelude.{◌≡◌, ℕ, zero, suc, ◌-◌, Bool, true, false, cond, Some, None, Ok, Err, is_err, Option, Result, slice_index}
+use Rattle.std.specs.Prelude.{◌≡◌, ℕ, zero, suc, ◌-◌, Bool, true, false, Some, None, Ok, Err, is_err, Option, Result, slice_index}
 use Rattle.fault.specs.declared.Fault.{Fault}
 use Rattle.journal.specs.Lookup.{Found}
 use Rattle.runs.specs.declared.Call.{Call}
@@ -55,27 +55,28 @@ brought (Ok (told.Carried true)) word = Ok (Word word)
 brought (Ok (told.Carried false)) word = Ok NoLine
 brought (Err f) word = Err f
 
--- the answer of a call as it is printed: a grant's with the level that won
-abbrev pub shown : CallAnswer → ℕ → ℕ → Bool → Answer
-shown answer level word grant = record { winner = cond grant (Some level) None; outcome = brought answer word }
+-- the answer of a call as it is printed, with the level that won
+abbrev pub shown : CallAnswer → Option ℕ → ℕ → Answer
+shown answer winner word = record { winner = winner; outcome = brought answer word }
 
-abbrev pub is_grant : Call → Bool
-is_grant (call.ReadPort p) = false
-is_grant (call.WritePort p v) = false
-is_grant call.Tick = false
-is_grant call.Acknowledge = false
-is_grant (call.Arrive l u) = false
-is_grant (call.Load a) = false
-is_grant (call.Store a v) = false
-is_grant call.Reset = false
-is_grant call.Grant = true
+-- the level that won the bus, after a grant
+abbrev pub winner_of : World → Call → Option ℕ
+winner_of w (call.ReadPort p) = None
+winner_of w (call.WritePort p v) = None
+winner_of w call.Tick = None
+winner_of w call.Acknowledge = None
+winner_of w (call.Arrive l u) = None
+winner_of w (call.Load a) = None
+winner_of w (call.Store a v) = None
+winner_of w call.Reset = None
+winner_of w call.Grant = Some w.board.arbitration.winner
 
 -- the word of the line put down last
 abbrev pub last_word : World → ℕ
 last_word w = slice_index w.journal (w.board.lines - 1)
 
 abbrev pub shown_of : World → Call → Answer
-shown_of w c = shown (answer w c) (after w c).board.arbitration.winner (last_word (after w c)) (is_grant c)
+shown_of w c = shown (answer w c) (winner_of (after w c) c) (last_word (after w c))
 
 -- the world after n ticks
 unfoldable pub ticks : ℕ → World → World

@@ -1,7 +1,7 @@
 ghost use Rattle.std.specs.Prelude.{◌≡◌, ◌-◌, slice_index};
 ghost use Rattle.runs.specs.World.{after, answer};
 ghost use Rattle.bench.specs.Machine.{world_of};
-ghost use Rattle.bench.specs.Calls.{call_of, is_grant, last_word, shown_of, ticks, FoundLine, left_by, Answers};
+ghost use Rattle.bench.specs.Calls.{call_of, last_word, shown_of, ticks, FoundLine, left_by, Answers};
 
 use crate::machine::{Answer, Machine, Outcome};
 use board::Bus;
@@ -32,12 +32,6 @@ fn call_of(entry: Entry) -> Option<Call>
         Entry::Grant => Some(Call::Grant),
         _ => None,
     }
-}
-
-fn is_grant(call: Call) -> bool
-    ensures { result ≡ is_grant call }
-{
-    matches!(call, Call::Grant)
 }
 
 // The word of the line put down last.
@@ -82,9 +76,12 @@ impl<M: Memory, R: Rack> Machine<M, R> {
         ensures after { world_of M.Memory.meaning R.Rack.meaning self.new ≡ after (world_of M.Memory.meaning R.Rack.meaning self.old) call }
     {
         let (bus, answer) = self.call(bus, call);
-        let level = self.board.arbitration().winner;
+        let winner = match call {
+            Call::Grant => Some(self.board.arbitration().winner),
+            _ => None,
+        };
         let word = last_word(self.journal.as_slice(), self.board.lines());
-        (bus, Answer::shown(answer, level, word, is_grant(call)))
+        (bus, Answer::shown(answer, winner, word))
     }
 
     // Apart from its callers, so that the loop over the words keeps its registers: half as fast within them.

@@ -57,8 +57,8 @@ impl Answer {
     }
 
     // The answer of a call as it is printed.
-    pub(crate) fn shown(answer: runs::Answer, level: u8, word: u64, grant: bool) -> Answer
-        ensures { result ≡ shown answer level word grant }
+    pub(crate) fn shown(answer: runs::Answer, winner: Option<u8>, word: u64) -> Answer
+        ensures { result ≡ shown answer winner word }
     {
         let outcome = answer.map(|reply| match reply {
             Reply::Done => Outcome::Done,
@@ -66,7 +66,6 @@ impl Answer {
             Reply::Carried(true) => Outcome::Word(word),
             Reply::Carried(false) => Outcome::NoLine,
         });
-        let winner = if grant { Some(level) } else { None };
         Answer { winner, outcome }
     }
 }
