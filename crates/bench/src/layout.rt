@@ -54,7 +54,7 @@ impl Rig {
         let length = self.memory.unwrap_or(65536) as usize;
         let bytes = vec![in heap; 0u8; length]?;
         let (lo, hi) = self.protect.unwrap_or((0, 0));
-        Ok(Protected::new(FlatMemory::new(bytes), lo, hi))
+        Ok(Protected::new(FlatMemory::new(bytes), lo..hi))
     }
 
     fn make_rack(&self, heap: Global) -> Result<YardRack, AllocError>

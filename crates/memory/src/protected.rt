@@ -13,14 +13,11 @@ pub struct Protected<M: Memory> {
 }
 
 impl<M: Memory> Protected<M> {
-    pub fn new(inner: M, lo: u32, hi: u32) -> Protected<M>
-        ensures meaning { protected_meaning M.Memory.meaning result ≡ guarded (M.Memory.meaning inner) lo hi }
-        ensures law { Shields (M.Memory.meaning inner) lo hi (protected_meaning M.Memory.meaning result) }
+    pub fn new(inner: M, range: Range<u32>) -> Protected<M>
+        ensures meaning { protected_meaning M.Memory.meaning result ≡ guarded (M.Memory.meaning inner) range.start range.end }
+        ensures law { Shields (M.Memory.meaning inner) range.start range.end (protected_meaning M.Memory.meaning result) }
     {
-        Protected {
-            inner,
-            range: lo..hi,
-        }
+        Protected { inner, range }
     }
 }
 

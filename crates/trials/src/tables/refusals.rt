@@ -75,13 +75,13 @@ fn write<M: Memory>(memory: &mut M, at: u32) -> Result<(), Refused> {
 // Past the end of the flat memory, and at 4 in the innermost protecting one.
 fn layers(mut flat: FlatMemory) -> [Result<(), Refused>; 6] {
     let alone = write(&mut flat, 16);
-    let mut one = Protected::new(flat, 4, 5);
+    let mut one = Protected::new(flat, 4..5);
     let beneath_one = write(&mut one, 16);
     let outermost = write(&mut one, 4);
-    let mut two = Protected::new(one, 6, 7);
+    let mut two = Protected::new(one, 6..7);
     let beneath_two = write(&mut two, 16);
     let second = write(&mut two, 4);
-    let third = write(&mut Protected::new(two, 8, 9), 4);
+    let third = write(&mut Protected::new(two, 8..9), 4);
     [alone, beneath_one, beneath_two, outermost, second, third]
 }
 
