@@ -18,8 +18,9 @@ pub use printer::TicketPrinter;
 pub use weighing::WeighingCard;
 
 // What stands at a level.
-#[derive(Clone, Copy, Debug, PartialEq, Eq)]
+#[derive(Clone, Copy, Debug, Default, PartialEq, Eq)]
 pub enum Kind {
+    #[default]
     Empty,
     // gives its waiting units
     Giver,
@@ -28,7 +29,7 @@ pub enum Kind {
 }
 
 // A level as a caller sees it: the numbers of units that wait and that were taken, and the room that is left.
-#[derive(Clone, Copy)]
+#[derive(Clone, Copy, Default)]
 pub struct LevelSummary {
     pub kind: Kind,
     // units of 16 bits, else of 8
@@ -45,14 +46,7 @@ impl LevelSummary {
     pub fn nothing() -> LevelSummary
         ensures { result ≡ summary nothing }
     {
-        LevelSummary {
-            kind: Kind::Empty,
-            wide: false,
-            line: false,
-            waiting: 0,
-            taken: 0,
-            room: 0,
-        }
+        LevelSummary::default()
     }
 }
 
