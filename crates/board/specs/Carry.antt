@@ -132,9 +132,13 @@ ended b n = with_dma (with_channel b n (with_mask (channel_at b n) true)) (with_
 abbrev pub channel_stepped : Board → Transfer → Board
 channel_stepped b t = with_channel b t.channel (stepped (channel_at b t.channel) t.wide)
 
+-- the unit's channel stepped, and ended after the last unit
+abbrev pub stepped_or_ended : Board → Transfer → Board
+stepped_or_ended b t = cond t.last (ended (channel_stepped b t) t.channel) (channel_stepped b t)
+
 -- the board after a unit
 abbrev pub counted : Board → Transfer → Board
-counted b t = with_lines (cond t.last (ended (channel_stepped b t) t.channel) (channel_stepped b t)) (b.lines + 1)
+counted b t = with_lines (stepped_or_ended b t) (b.lines + 1)
 
 -- the card is told the last unit
 abbrev pub told_if : Bool → Levels → ℕ → Levels

@@ -47,7 +47,7 @@ impl Board {
     }
 
     // The lowest level whose line is up and that has an open channel, with its lowest open channel.
-    // kept: a rule of the project: arbitration is a search by labelled break
+    // kept: a rule of the project: arbitration breaks out of labelled loops over the levels and, within, the channels
     #[tactic(auto, using(crate::proofs::Arbitrating::wins, crate::proofs::Searched::passed, crate::proofs::Searched::none_won))]
     fn arbitrate<R: Rack>(&self, rack: &R) -> Option<Winner>
         ensures winner { Won self.now (R.Rack.meaning rack.now) result }
@@ -196,7 +196,7 @@ impl Bus {
 }
 
 // Grants the bus and carries at once.
-// kept: the four references, as in carry
+// kept: the four references, as at carry
 pub fn cycle<M: Memory, R: Rack>(
     bus: Bus,
     board: &mut Board,

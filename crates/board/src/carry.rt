@@ -3,7 +3,7 @@ ghost use Rattle.dma.specs.Channels.{after};
 ghost use Rattle.journal.specs.Layout.{listed};
 ghost use Rattle.memory.specs.Meaning.{Answer, Contents};
 ghost use Rattle.rack.specs.Meaning.{Levels, fits, told};
-ghost use Rattle.board.specs.Carry.{wide_mode, motion_of, asked, serves, card_able_for, span, AnswersBy, memory_answer, checked, Ready, fetched, landed, unit_of, memory_moved, rack_moved, line_kind, line_of, counted, these, performed, failing, carried};
+ghost use Rattle.board.specs.Carry.{wide_mode, motion_of, asked, serves, card_able_for, span, AnswersBy, memory_answer, checked, Ready, fetched, landed, unit_of, memory_moved, rack_moved, line_kind, line_of, stepped_or_ended, these, performed, failing, carried};
 ghost use Rattle.board.specs.State.{channel_at};
 
 use crate::{Board, Bus, Winner, put_down};
@@ -206,10 +206,10 @@ impl Transfer {
 }
 
 impl Board {
-    // Steps the unit's channel, closes it after the last unit, and counts the line.
-    fn count(&mut self, transfer: Transfer)
-        requires { (transfer.channel < 8) × (self.old.lines < 65536) }
-        ensures { self.new ≡ counted self.old transfer }
+    // Steps the unit's channel, and closes it after the last unit.
+    fn step_channel(&mut self, transfer: Transfer)
+        requires { transfer.channel < 8 }
+        ensures { self.new ≡ stepped_or_ended self.old transfer }
     {
         let channel = transfer.channel as usize;
         self.channels[channel].step(transfer.wide);
@@ -217,7 +217,6 @@ impl Board {
             self.channels[channel].set_mask(true);
             self.dma.mark(transfer.channel, Mark::Last);
         }
-        self.lines += 1;
     }
 
     // Moves one unit that has passed the checks, and puts its line down.
@@ -236,7 +235,8 @@ impl Board {
             rack.tell_last(transfer.level);
         }
         put_down(journal, self.lines, transfer.line(unit));
-        self.count(transfer);
+        self.step_channel(transfer);
+        self.lines += 1;
     }
 
     // A failed check shows at port 0090, but for a full journal.
@@ -276,7 +276,7 @@ impl Drop for GrantedBus {
 
 impl GrantedBus {
     // Moves the unit of the grant, if its checks pass; whatever the answer, the bus is at rest again.
-    // kept: board, memory, rack and journal come as four references: a struct of them would put each clause behind a field's entry and exit
+    // kept: a struct of the four references would owe in each contract that each field still holds the same reference
     pub fn carry<M: Memory, R: Rack>(
         mut self,
         board: &mut Board,

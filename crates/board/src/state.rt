@@ -27,6 +27,7 @@ pub struct Board {
     pub(crate) timers: Timers,
     // bits 3-0 of port 0061
     pub(crate) port61: u8,
+    // kept: a rule of the project: the journal is a slice of the caller's, and its line count the board's, which a reset keeps
     pub(crate) lines: u32,
 }
 
