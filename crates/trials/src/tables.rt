@@ -65,7 +65,7 @@ struct Rig {
     opened: &'static [Opened],
 }
 
-fn open_channel(bus: &Bus, board: &mut Board, opened: Opened) {
+fn open_channel(rt: &impl Abort, bus: &Bus, board: &mut Board, opened: Opened) {
     let Opened(channel, address, count, mode) = opened;
     let [low, middle, high, _] = address.to_le_bytes();
     let [count_low, count_high] = count.to_le_bytes();
@@ -81,13 +81,13 @@ fn open_channel(bus: &Bus, board: &mut Board, opened: Opened) {
         (0x1A, mode),
         (0x18, 0xA0 | channel),
     ] {
-        let _ = bus.write_port(board, port, byte);
+        assert_eq!(rt; bus.write_port(board, port, byte), Ok(()));
     }
 }
 
 fn lay_memory(heap: Global, length: usize) -> Result<Protected<Protected<FlatMemory>>, AllocError> {
     let flat = FlatMemory::new(vec![in heap; 0; length]?);
-    Ok(Protected::new(Protected::new(flat, 4, 6), 8, 10))
+    Ok(Protected::new(Protected::new(flat, 4..6), 8..10))
 }
 
 fn lay_rack(
@@ -106,7 +106,7 @@ fn run(rt: &impl Abort, heap: Global, rig: &Rig, steps: &[Step]) -> Result<Regis
     let mut journal = vec![in heap; 0; rig.journal]?;
     let (mut board, bus) = power_on();
     for opened in rig.opened {
-        open_channel(&bus, &mut board, *opened);
+        open_channel(rt, &bus, &mut board, *opened);
     }
     Ok(play(rt, bus, board, &mut memory, &mut rack, &mut journal, steps))
 }

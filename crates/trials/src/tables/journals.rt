@@ -81,6 +81,7 @@ fn spoiled_lines_do_not_pack(rt: HostRuntime) {
         unit: 0xFF,
     };
     check_number(&rt, line.pack(), Ok(WORDS[2]));
+    assert_eq!(rt; Line::unpack(WORDS[2]), Ok(line));
     for spoiled in [
         Line { channel: 8, ..line },
         Line { level: 15, ..line },

@@ -9,9 +9,9 @@ fn read(port: u16) -> Result<u8, Refused> {
 }
 
 // An unused board takes a byte, after a function byte.
-fn write(function: u8, port: u16, byte: u8) -> Result<(), Refused> {
+fn write(rt: &impl Abort, function: u8, port: u16, byte: u8) -> Result<(), Refused> {
     let (mut board, bus) = power_on();
-    let _ = bus.write_port(&mut board, 0x18, function);
+    assert_eq!(rt; bus.write_port(&mut board, 0x18, function), Ok(()));
     bus.write_port(&mut board, port, byte).map_err(numbers)
 }
 
@@ -39,7 +39,7 @@ fn every_port_both_ways(rt: HostRuntime) {
         };
         let (reading, writing) = expected(port);
         assert_eq!(rt; read(port), reading, "reading port {port}");
-        assert_eq!(rt; write(0, port, byte), writing, "writing port {port}");
+        assert_eq!(rt; write(&rt, 0, port, byte), writing, "writing port {port}");
     }
 }
 
@@ -82,7 +82,7 @@ fn lists(function: u8, port: u16, byte: u8) -> bool {
 fn count_listed(rt: &impl Abort, function: u8, port: u16) -> u32 {
     let mut taken = 0u32;
     for byte in 0..=0xFFu8 {
-        let answer = write(function, port, byte);
+        let answer = write(rt, function, port, byte);
         if lists(function, port, byte) {
             taken = taken.saturating_add(1);
             assert_eq!(rt; answer, Ok(()));
