@@ -5,7 +5,7 @@ use crate::lines::{Count, count_lines};
 use journal::{Kind, Line};
 
 // The DMA lines of a journal at one level.
-#[derive(Clone, Copy, Debug, Default, PartialEq, Eq)]
+#[derive(Clone, Copy, Default)]
 pub struct LevelTotals {
     pub to_memory: u32,
     pub to_card: u32,

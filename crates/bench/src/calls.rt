@@ -35,6 +35,7 @@ fn call_of(entry: Entry) -> Option<Call>
 }
 
 // The word of the line put down last.
+// kept: 0 before the first line, as the definition has it; only a carry that put a line down shows the word
 fn last_word(words: &[u64], lines: u32) -> u64
     ensures { result ≡ slice_index words.now (lines - 1) }
 {

@@ -16,6 +16,7 @@ pub struct Rig {
     pub printer: Option<u8>,
     pub journal: Option<u32>,
     // a call or a view has come
+    // kept: with an open and a closed rig as two types, each reader of a part would match on them first
     pub closed: bool,
 }
 

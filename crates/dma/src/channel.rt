@@ -7,6 +7,7 @@ pub struct Channel {
     pub address: u32,
     pub count: u16,
     pub io: u16,
+    // kept: a register that is written and read back as a byte, of whose bits three are looked at: no plainer as an enum
     pub mode: u8,
     pub masked: bool,
     pub level: u8,

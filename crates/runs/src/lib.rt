@@ -14,7 +14,7 @@ use rack::Rack;
 use std::alloc::{AllocError, Global};
 
 // A call of the bus; a grant goes with its carry.
-#[derive(Clone, Copy, Debug, PartialEq, Eq)]
+#[derive(Clone, Copy)]
 pub enum Call {
     ReadPort(u16),
     WritePort(u16, u8),
@@ -49,7 +49,7 @@ pub struct Performed {
 }
 
 // One call.
-// kept: the four travel together; a struct of references needs one clause more, that it ends with the same four.
+// kept: a struct of the four references would owe in each contract that each field still holds the same reference
 #[tactic(auto, using(crate::proofs::Answering::byte_stays), unfolding(crate::specs::World::after, crate::specs::World::answer))]
 fn act<M: Memory, R: Rack>(
     bus: Bus,
@@ -110,7 +110,7 @@ pub fn perform_one<M: Memory, R: Rack>(
 // Performs the calls in turn on a board in use. Whatever list of calls has led to its board, memory, rack and journal
 // from an unused board, the law over runs holds of that list followed by this one. Without memory for the answers
 // nothing is performed.
-// kept: the same four; a struct that owned them would ask the caller for an owned journal.
+// kept: as at act; a struct that owned the four would ask the caller for an owned journal
 pub fn go_on<M: Memory, R: Rack>(
     heap: Global,
     mut bus: Bus,
@@ -125,7 +125,7 @@ pub fn go_on<M: Memory, R: Rack>(
     ensures law { OnOk result.1 (GoesOn (world board.old (M.Memory.meaning memory.old) (R.Rack.meaning rack.old) journal.old) calls.now (world board.new (M.Memory.meaning memory.new) (R.Rack.meaning rack.new) journal.new)) }
     ensures unaltered { OnErr result.1 (world board.new (M.Memory.meaning memory.new) (R.Rack.meaning rack.new) journal.new ≡ world board.old (M.Memory.meaning memory.old) (R.Rack.meaning rack.old) journal.old) }
 {
-    // kept: `?` could not hand the bus back
+    // kept: `?` would not hand the bus back
     let mut answers = match Vec::with_capacity(heap, calls.len()) {
         Ok(answers) => answers,
         Err(error) => return (bus, Err(error)),

@@ -37,6 +37,7 @@ pub enum Phase {
     Running,
 }
 
+// kept: a rule of the project: a counter matches its mode and phase together with the event
 #[derive(Clone, Copy)]
 pub enum Event {
     // a clock, with the level of the gate
