@@ -81,14 +81,18 @@ impl Bus {
         ensures answer { result ≡ (port_read board.old port).answer }
         ensures after { board.new ≡ (port_read board.old port).board }
     {
-        board.read_port(port)
+        board
+            .read(port)
+            .map_err(|refusal| Fault::own(refusal, u32::from(port)))
     }
 
     pub fn write_port(&self, board: &mut Board, port: u16, byte: u8) -> Result<(), Fault>
         ensures answer { result ≡ (port_written board.old port byte).answer }
         ensures after { board.new ≡ (port_written board.old port byte).board }
     {
-        board.write_port(port, byte)
+        board
+            .write(port, byte)
+            .map_err(|refusal| Fault::own(refusal, u32::from(port)))
     }
 
     // One tick of the timers' clock.
@@ -102,7 +106,7 @@ impl Bus {
     pub fn acknowledge(&self, board: &mut Board)
         ensures { board.new ≡ acknowledge_after board.old }
     {
-        board.acknowledge();
+        board.timers.acknowledge();
     }
 
     // A unit comes to a card from outside.
@@ -127,6 +131,7 @@ impl Bus {
     }
 
     // The processor stores a byte, and a line of it is put down.
+    // kept: the references, as at carry
     pub fn store<M: Memory>(
         &self,
         board: &mut Board,
@@ -181,10 +186,8 @@ impl Bus {
             board.request(rack);
             winner
         };
-        let (level, channel) = match winner {
-            Some(winner) => (winner.level, winner.channel),
-            None => (15, 0),
-        };
+        // kept: a rule of the project: a granted bus has plain numbers, 15 for the processor
+        let (level, channel) = winner.map_or((15, 0), |winner| (winner.level, winner.channel));
         board.arbitration.winner = level;
         GrantedBus {
             grants: grants.wrapping_add(1),

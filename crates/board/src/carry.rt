@@ -22,7 +22,7 @@ pub enum Motion {
 }
 
 // One unit that has passed every check and is to be moved.
-// kept: the bounds of its numbers stand in Ready and not here, since specs/ makes transfers of any numbers: the new form is no plainer
+// kept: with its bounds as a ghost field, each transfer that specs/ makes would owe their proof
 #[derive(Clone, Copy)]
 pub struct Transfer {
     pub motion: Motion,
@@ -33,15 +33,18 @@ pub struct Transfer {
     pub address: u32,
 }
 
-fn decode_motion(channel: Channel) -> Motion
-    ensures { result ≡ motion_of channel.mode }
-{
-    if !channel.transfers() {
-        Motion::Verify
-    } else if channel.writes_memory() {
-        Motion::ToMemory
-    } else {
-        Motion::ToCard
+// The way that a channel's mode bits 3 and 2 tell.
+impl From<Channel> for Motion {
+    ghost from_gives = { λ channel motion. motion ≡ motion_of channel.mode };
+
+    fn from(channel: Channel) -> Motion {
+        if !channel.transfers() {
+            Motion::Verify
+        } else if channel.writes_memory() {
+            Motion::ToMemory
+        } else {
+            Motion::ToCard
+        }
     }
 }
 
@@ -97,21 +100,21 @@ impl Board {
         winner: Winner,
         memory: &M,
         rack: &R,
-        size: usize,
+        length: usize,
     ) -> Result<Transfer, Fault>
-        ensures answer { result ≡ checked self.now (M.Memory.meaning memory.now) (R.Rack.meaning rack.now) size winner.level winner.channel }
-        ensures room { IfOk result (λ t. (self.now.lines < size) × (self.now.lines < 65536)) }
+        ensures answer { result ≡ checked self.now (M.Memory.meaning memory.now) (R.Rack.meaning rack.now) length winner.level winner.channel }
+        ensures room { IfOk result (λ t. (self.now.lines < length) × (self.now.lines < 65536)) }
         ensures ready { IfOk result (λ t. Ready t (M.Memory.meaning memory.now) (R.Rack.meaning rack.now)) }
     {
         let Winner { level, channel } = winner;
-        if journal::is_full(self.lines, size) {
+        if journal::is_full(self.lines, length) {
             return Err(Fault::own(Refusal::JournalFull, u32::from(level)));
         }
-        let registers = self.channels[channel as usize];
+        let registers = self.channels[usize::from(channel)];
         if !asks(registers, rack, level) || !serves(registers, rack, level) {
             return Err(Fault::own(Refusal::CannotServe, u32::from(level)));
         }
-        let motion = decode_motion(registers);
+        let motion = Motion::from(registers);
         let wide = registers.is_wide();
         let address = registers.memory_address();
         ask(memory, motion, wide, address)?;
@@ -211,7 +214,7 @@ impl Board {
         requires { transfer.channel < 8 }
         ensures { self.new ≡ stepped_or_ended self.old transfer }
     {
-        let channel = transfer.channel as usize;
+        let channel = usize::from(transfer.channel);
         self.channels[channel].step(transfer.wide);
         if transfer.last {
             self.channels[channel].set_mask(true);
@@ -220,6 +223,7 @@ impl Board {
     }
 
     // Moves one unit that has passed the checks, and puts its line down.
+    // kept: the references, as at carry
     fn perform<M: Memory, R: Rack>(
         &mut self,
         transfer: Transfer,

@@ -89,12 +89,6 @@ impl Board {
         self.note_rise(rose);
     }
 
-    pub(crate) fn acknowledge(&mut self)
-        ensures { self.new ≡ acknowledge_after self.old }
-    {
-        self.timers.acknowledge();
-    }
-
     // A byte to port 0043.
     fn write_control(&mut self, byte: u8) -> Result<(), Refusal>
         ensures answer { result ≡ done (control_answer self.old.timers byte) }
@@ -116,7 +110,8 @@ impl Board {
         self.port61 = byte % 16;
     }
 
-    fn write(&mut self, port: u16, byte: u8) -> Result<(), Refusal>
+    // A byte to a port, or a refusal at it.
+    pub(crate) fn write(&mut self, port: u16, byte: u8) -> Result<(), Refusal>
         ensures answer { at_port result port ≡ (port_written self.old port byte).answer }
         ensures after { self.new ≡ (port_written self.old port byte).board }
     {
@@ -138,15 +133,8 @@ impl Board {
         }
     }
 
-    pub(crate) fn write_port(&mut self, port: u16, byte: u8) -> Result<(), Fault>
-        ensures answer { result ≡ (port_written self.old port byte).answer }
-        ensures after { self.new ≡ (port_written self.old port byte).board }
-    {
-        self.write(port, byte)
-            .map_err(|refusal| Fault::own(refusal, u32::from(port)))
-    }
-
-    fn read(&mut self, port: u16) -> Result<u8, Refusal>
+    // What a port reads, or a refusal at it.
+    pub(crate) fn read(&mut self, port: u16) -> Result<u8, Refusal>
         ensures answer { at_port result port ≡ (port_read self.old port).answer }
         ensures after { self.new ≡ (port_read self.old port).board }
     {
@@ -160,13 +148,5 @@ impl Board {
             Port::SystemControlA => Ok(16 * u8::from(self.timers.watchdog.out)),
             Port::Function | Port::Control | Port::WatchdogControl => Err(Refusal::NoSuchPort),
         }
-    }
-
-    pub(crate) fn read_port(&mut self, port: u16) -> Result<u8, Fault>
-        ensures answer { result ≡ (port_read self.old port).answer }
-        ensures after { self.new ≡ (port_read self.old port).board }
-    {
-        self.read(port)
-            .map_err(|refusal| Fault::own(refusal, u32::from(port)))
     }
 }

@@ -32,7 +32,7 @@ pub struct Board {
 }
 
 // All that a board holds, to be looked at.
-// kept: a Board that held its Registers would put one more field into each definition of specs/: the new form is no plainer
+// kept: a rule of the project: the channel records stand as a table in the plain Board; this is its copy to look at
 #[derive(Clone, Copy, Debug, PartialEq, Eq)]
 pub struct Registers {
     pub channels: [Channel; 8],
@@ -66,6 +66,7 @@ impl Board {
         }
     }
 
+    // kept: each of the six looks is public and stays beside the look at all
     pub fn channels(&self) -> [Channel; 8]
         ensures { result ≡ self.now.channels }
     {

@@ -40,7 +40,7 @@ pub enum Action {
 pub(crate) fn channel_of(function: u8) -> usize
     ensures { result ≡ channel_of function }
 {
-    (function % 8) as usize
+    usize::from(function % 8)
 }
 
 // What the function byte (command in bits 7-4, 0 in bit 3, channel in bits 2-0) asks for, by the way and the byte pointer.

@@ -200,6 +200,6 @@ impl Controller {
             Mark::Last => 0,
             Mark::Request => 4,
         };
-        self.status[(channel % 8 / 4) as usize] |= 1 << (first + channel % 4);
+        self.status[usize::from(channel % 8 / 4)] |= 1 << (first + channel % 4);
     }
 }

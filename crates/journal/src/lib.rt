@@ -104,7 +104,7 @@ impl Line {
     }
 
     // The line as a word.
-    // kept: as conversions pack and unpack would state their laws in one ghost member, without their names.
+    // kept: as conversions pack and unpack would state their laws in one ghost member, without their names
     #[tactic(auto, using(crate::proofs::Codec::reads_back))]
     pub fn pack(&self) -> Result<u64, Fault>
         ensures answer { result ≡ packed self.now }

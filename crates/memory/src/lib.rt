@@ -31,7 +31,7 @@ impl From<Reason> for Refusal {
 
 // A memory's refusal: the address that the memory was asked about, and how deep that memory is.
 // The memory that is asked is layer 1, each beneath it one more, 255 at most.
-// kept: with one Fault<R>, its From into Fault<Refusal> could stand neither here (foreign types) nor in fault (beside From<T> for T)
+// kept: a rule of the project: a memory's fault rises by From, which of Fault<Reason> into Fault<Refusal> could not stand in this crate
 #[derive(Clone, Copy, Debug, PartialEq, Eq)]
 pub struct MemoryFault {
     pub reason: Reason,

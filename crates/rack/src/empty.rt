@@ -18,6 +18,7 @@ impl EmptyRack {
     }
 }
 
+// kept: a default answer in Rack would be proved of no meaning, so each rack refuses for itself
 impl Rack for EmptyRack {
     ghost meaning = { empty_meaning };
 

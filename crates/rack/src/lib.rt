@@ -51,7 +51,7 @@ impl LevelSummary {
 }
 
 // Whether a card made for one level stands at another; above 14 it stands nowhere.
-// kept: a card generic in its device needs six of these tests in place of seven, and a second trait that states Rack's contracts again.
+// kept: a card generic in its device needs six of these tests in place of seven, and a second trait that states Rack's contracts again
 fn stands_at(own_level: u8, level: u8) -> bool
     ensures { result ≡ stands_at own_level level }
 {

@@ -28,7 +28,7 @@ impl<A: Rack, B: Rack> Pair<A, B> {
     }
 }
 
-// kept: tried a method that picks the rack: a `&dyn Rack` of a type parameter gets no proof, and each call would pass a closure for either rack.
+// kept: tried a method that picks the rack: a `&dyn Rack` of a type parameter gets no proof, and each call would pass a closure for either rack
 impl<A: Rack, B: Rack> Rack for Pair<A, B> {
     ghost meaning = { pair_meaning A.Rack.meaning B.Rack.meaning };
 

@@ -68,7 +68,7 @@ pub struct Counter {
 }
 
 // What a look at a counter shows.
-#[derive(Clone, Copy, Debug, PartialEq, Eq)]
+#[derive(Clone, Copy)]
 pub struct Setting {
     pub mode: Mode,
     pub access: Access,
@@ -161,7 +161,7 @@ impl Mode {
     {
         match (self, phase) {
             (Mode::TerminalCount, _) | (_, Phase::Empty) => Phase::First,
-            (_, _) => phase,
+            _ => phase,
         }
     }
 
@@ -179,11 +179,12 @@ impl Access {
         ensures value { result ≡ count_of self low high }
         ensures bound { result ≤ 65535 }
     {
-        match self {
-            Access::Low => u32::from(low),
-            Access::High => 256 * u32::from(high),
-            Access::LowThenHigh => u32::from(low) + 256 * u32::from(high),
-        }
+        let bytes = match self {
+            Access::Low => [low, 0],
+            Access::High => [0, high],
+            Access::LowThenHigh => [low, high],
+        };
+        u32::from(u16::from_le_bytes(bytes))
     }
 
     // The count that a byte makes whole, if it does.
@@ -245,10 +246,7 @@ impl Counter {
     pub fn setting(&self) -> Option<Setting>
         ensures { result ≡ setting self.now }
     {
-        if !self.is_set_up() {
-            return None;
-        }
-        Some(Setting {
+        self.is_set_up().then_some(Setting {
             mode: self.mode,
             access: self.access,
             standing: self.standing,
@@ -361,19 +359,15 @@ impl Counter {
         if !self.is_set_up() {
             return Err(Refusal::WrongWay);
         }
-        let high = match self.access {
-            Access::Low => false,
-            Access::High => true,
+        let [low, high, ..] = self.standing.to_le_bytes();
+        let byte = match self.access {
+            Access::Low => low,
+            Access::High => high,
             Access::LowThenHigh => {
                 self.read_high = !self.read_high;
-                !self.read_high
+                if self.read_high { low } else { high }
             }
         };
-        let byte = if high {
-            self.standing / 256 % 256
-        } else {
-            self.standing % 256
-        };
-        Ok(byte as u8)
+        Ok(byte)
     }
 }

@@ -6,6 +6,7 @@ use crate::table::SHEET;
 use crate::{Access, Mode};
 use fault::Refusal;
 
+// kept: a control byte cannot name counter 3, so this has a case fewer than CountPort
 #[derive(Clone, Copy)]
 pub enum CounterName {
     // counter 0
@@ -41,7 +42,7 @@ pub struct Control {
 pub fn sheet_entry(byte: u8) -> u8
     ensures { result ≡ entry_of byte }
 {
-    SHEET[byte as usize]
+    SHEET[usize::from(byte)]
 }
 
 // What a byte at port 0043 asks for, if it is listed.

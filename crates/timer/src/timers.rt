@@ -145,7 +145,7 @@ impl Timers {
         match (self.gate, gate) {
             (false, true) => self.speaker.step(Event::GateRise).unwrap(),
             (true, false) => self.speaker.step(Event::GateFall).unwrap(),
-            (_, _) => {}
+            _ => {}
         }
         self.gate = gate;
     }
