@@ -16,6 +16,7 @@ mod refusals;
 mod resets;
 
 // A refusal's number, its place and its layer.
+// kept: the tables name a refusal by its number, as docs/MACHINE.md does, so that the numbers are tried too
 type Refused = (u8, u32, u8);
 
 // A call and the answer that it has to have.
@@ -50,9 +51,14 @@ fn play<M: Memory, R: Rack>(
     board.registers()
 }
 
-// A channel that is set up and opened at first: its number, address, count and mode.
+// A channel that is set up and opened at first.
 #[derive(Clone, Copy)]
-struct Opened(u8, u32, u16, u8);
+struct Opened {
+    channel: u8,
+    address: u32,
+    count: u16,
+    mode: u8,
+}
 
 // The lengths of memory and journal, the levels of a scale and a printer.
 // The memory is flat; over it bytes 4 and 5 are protected, and over that 8 and 9.
@@ -66,7 +72,12 @@ struct Rig {
 }
 
 fn open_channel(rt: &impl Abort, bus: &Bus, board: &mut Board, opened: Opened) {
-    let Opened(channel, address, count, mode) = opened;
+    let Opened {
+        channel,
+        address,
+        count,
+        mode,
+    } = opened;
     let [low, middle, high, _] = address.to_le_bytes();
     let [count_low, count_high] = count.to_le_bytes();
     for (port, byte) in [

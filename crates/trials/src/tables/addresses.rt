@@ -8,7 +8,12 @@ static WHOLE: Rig = Rig {
     journal: 2,
     scale: 5,
     printer: 3,
-    opened: &[Opened(5, 0xFF_FFFF, 3, 0x4C)],
+    opened: &[Opened {
+        channel: 5,
+        address: 0xFF_FFFF,
+        count: 3,
+        mode: 0x4C,
+    }],
 };
 
 static AROUND: [Step; 11] = [
@@ -31,7 +36,12 @@ static ONE_BYTE: Rig = Rig {
     journal: 4,
     scale: 5,
     printer: 3,
-    opened: &[Opened(3, 0, 9, 0x04)],
+    opened: &[Opened {
+        channel: 3,
+        address: 0,
+        count: 9,
+        mode: 0x04,
+    }],
 };
 
 static PAST_IT: [Step; 8] = [

@@ -86,6 +86,6 @@ fn printer_takes_2048(rt: HostRuntime) -> Result<(), Fail> {
     }
     let full = printer.summary(3);
     assert_eq!(rt; printer.taken_unit(3, 2047), Some(255));
-    assert!(rt; full.taken == 2048 && full.room == 0 && !full.line);
+    assert_eq!(rt; (full.taken, full.room, full.line), (2048, 0, false));
     Ok(())
 }

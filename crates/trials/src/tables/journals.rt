@@ -1,9 +1,8 @@
-use super::{DONE, NO_LINE, Refused, Rig, Step, check_lines, numbers};
+use super::{DONE, NO_LINE, Rig, Step, check_lines, numbers};
 use fault::Fault;
 use journal::{Kind, Line, find_writer};
 use runs::Call;
 use std::alloc::{AllocError, Global};
-use std::process::Abort;
 use std::test::Fail;
 
 // So many stores, one too many, and the processor's grant, which asks for no room.
@@ -50,11 +49,6 @@ static NO_LINES: [(u64, u32); 8] = [
     (0x3028_0000_0000_0001, 3),
 ];
 
-// A word or a place.
-fn check_number(rt: &impl Abort, answer: Result<u64, Fault>, wanted: Result<u64, Refused>) {
-    assert_eq!(rt; answer.map_err(numbers), wanted);
-}
-
 fn repacked(word: u64) -> Result<u64, Fault> {
     Line::unpack(word)?.pack()
 }
@@ -62,10 +56,10 @@ fn repacked(word: u64) -> Result<u64, Fault> {
 #[test]
 fn words_are_lines_or_refused(rt: HostRuntime) {
     for word in WORDS {
-        check_number(&rt, repacked(word), Ok(word));
+        assert_eq!(rt; repacked(word), Ok(word));
     }
     for (word, kind) in NO_LINES {
-        check_number(&rt, repacked(word), Err((12, kind, 0)));
+        assert_eq!(rt; repacked(word).map_err(numbers), Err((12, kind, 0)));
     }
 }
 
@@ -80,7 +74,7 @@ fn spoiled_lines_do_not_pack(rt: HostRuntime) {
         address: 0xFF_FFFE,
         unit: 0xFF,
     };
-    check_number(&rt, line.pack(), Ok(WORDS[2]));
+    assert_eq!(rt; line.pack(), Ok(WORDS[2]));
     assert_eq!(rt; Line::unpack(WORDS[2]), Ok(line));
     for spoiled in [
         Line { channel: 8, ..line },
@@ -94,19 +88,16 @@ fn spoiled_lines_do_not_pack(rt: HostRuntime) {
             ..line
         },
     ] {
-        check_number(&rt, spoiled.pack(), Err((12, 2, 0)));
+        assert_eq!(rt; spoiled.pack().map_err(numbers), Err((12, 2, 0)));
     }
-}
-
-fn found(address: u32) -> Result<u64, Fault> {
-    Ok(find_writer(&WORDS, address)? as u64)
 }
 
 #[test]
 fn writers_are_found(rt: HostRuntime) {
-    check_number(&rt, found(0xFF_FFFF), Ok(1));
-    assert!(rt; found(0).is_ok());
+    assert_eq!(rt; find_writer(&WORDS, 0xFF_FFFF), Ok(1));
+    assert!(rt; find_writer(&WORDS, 0).is_ok());
     for (address, number) in [(0xFF_FFFE, 11), (9, 11), (1, 11), (0x100_0000, 10)] {
-        check_number(&rt, found(address), Err((number, address, 0)));
+        let refused = find_writer(&WORDS, address).map_err(numbers);
+        assert_eq!(rt; refused, Err((number, address, 0)));
     }
 }

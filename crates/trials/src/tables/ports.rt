@@ -45,63 +45,38 @@ fn every_port_both_ways(rt: HostRuntime) {
 
 // Whether a port takes a byte after a function byte.
 fn lists(function: u8, port: u16, byte: u8) -> bool {
-    match (port, function) {
-        (0x18, _) => match byte {
-            0x20..=0x7F => byte % 16 < 8,
-            _ =>
-                matches!(byte, 0x00..=0x07 | 0x80 | 0x84 | 0x90..=0x97 | 0xA0..=0xA7 | 0xD0..=0xD7),
-        },
-        (0x43, _) => matches!(
-            byte,
-            0x10 | 0x14
-                | 0x16
-                | 0x20
-                | 0x24
-                | 0x26
-                | 0x30
-                | 0x34
-                | 0x36
-                | 0x90
-                | 0x94
-                | 0x96
-                | 0xA0
-                | 0xA4
-                | 0xA6
-                | 0xB0
-                | 0xB4
-                | 0xB6
-        ),
-        (0x47, _) => byte == 0x10,
-        (0x1A, 0x73) => matches!(byte, 0x00 | 0x04 | 0x08 | 0x0C | 0x40 | 0x44 | 0x48 | 0x4C),
-        (0x1A, 0x84) => byte <= 14,
-        _ => false,
-    }
+    matches!(
+        (port, function, byte),
+        (0x18, _, 0x00..=0x07 | 0x20..=0x27 | 0x30..=0x37 | 0x40..=0x47 | 0x50..=0x57)
+            | (0x18, _, 0x60..=0x67 | 0x70..=0x77 | 0x80 | 0x84 | 0x90..=0x97)
+            | (0x18, _, 0xA0..=0xA7 | 0xD0..=0xD7)
+            | (0x43, _, 0x10 | 0x14 | 0x16 | 0x20 | 0x24 | 0x26 | 0x30 | 0x34 | 0x36)
+            | (0x43, _, 0x90 | 0x94 | 0x96 | 0xA0 | 0xA4 | 0xA6 | 0xB0 | 0xB4 | 0xB6)
+            | (0x47, _, 0x10)
+            | (0x1A, 0x73, 0x00 | 0x04 | 0x08 | 0x0C | 0x40 | 0x44 | 0x48 | 0x4C)
+            | (0x1A, 0x84, 0..=14)
+    )
 }
 
-// The number of bytes that a port takes; each other byte is refused with 2.
-fn count_listed(rt: &impl Abort, function: u8, port: u16) -> u32 {
-    let mut taken = 0u32;
-    for byte in 0..=0xFFu8 {
-        let answer = write(rt, function, port, byte);
-        if lists(function, port, byte) {
-            taken = taken.saturating_add(1);
-            assert_eq!(rt; answer, Ok(()));
-        } else {
-            assert_eq!(rt; answer, Err((2, u32::from(port), 0)));
-        }
-    }
-    taken
-}
-
+// Each byte that is not listed is refused with 2.
 #[test]
 fn only_listed_bytes_are_taken(rt: HostRuntime) {
     for (function, port, number) in [
-        (0, 0x18, 82),
+        (0, 0x18, 82usize),
         (0, 0x43, 18),
         (0, 0x47, 1),
         (0x73, 0x1A, 8),
         (0x84, 0x1A, 15),
     ] {
-        assert_eq!(rt; count_listed(&rt, function, port), number);
+        for byte in 0..=0xFFu8 {
+            let wanted = if lists(function, port, byte) {
+                Ok(())
+            } else {
+                Err((2, u32::from(port), 0))
+            };
+            assert_eq!(rt; write(&rt, function, port, byte), wanted);
+        }
+        let listed = (0..=0xFFu8).filter(|byte| lists(function, port, *byte));
+        assert_eq!(rt; listed.count(), number);
     }
 }

@@ -1,4 +1,4 @@
-use super::{DONE, LINE, NO_LINE, Opened, Refused, Rig, Step, check_lines, numbers};
+use super::{DONE, NO_LINE, Opened, Refused, Rig, Step, check_lines, numbers};
 use fault::Fault;
 use memory::{Beneath, FlatMemory, Memory, MemoryFault, Protected, Reason};
 use runs::{Call, Reply};
@@ -10,7 +10,12 @@ static RIG: Rig = Rig {
     journal: 1,
     scale: 5,
     printer: 3,
-    opened: &[Opened(5, 0, 0, 0x0C)],
+    opened: &[Opened {
+        channel: 5,
+        address: 0,
+        count: 0,
+        mode: 0x0C,
+    }],
 };
 
 static REFUSED: [Step; 42] = [

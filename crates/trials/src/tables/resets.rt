@@ -11,7 +11,20 @@ static RIG: Rig = Rig {
     journal: 4,
     scale: 5,
     printer: 3,
-    opened: &[Opened(5, 0x20, 0, 0x4C), Opened(3, 0, 0, 0x4C)],
+    opened: &[
+        Opened {
+            channel: 5,
+            address: 0x20,
+            count: 0,
+            mode: 0x4C,
+        },
+        Opened {
+            channel: 3,
+            address: 0,
+            count: 0,
+            mode: 0x4C,
+        },
+    ],
 };
 
 // A store, a last unit, a carry that fails, a watchdog one rise before its end, and an address, a count and a reading of a
