@@ -135,9 +135,7 @@ def main():
     answers = glob.glob(os.path.join(folder, "crates/*/proofs/**/*.antt"), recursive=True)
     rows.append(("8", "files of answers", [a for a in answers if a.endswith(("Answers.antt", "Proof.antt"))]))
     rows.append(("8", "files of invariants", [a for a in answers if a.endswith("Invariants.antt")]))
-    kept = list(by_pattern(files, r"")) and [
-        f"{path}:{n}: {line.strip()}" for path in files for n, line in enumerate(open(path), 1) if "// kept:" in line
-    ]
+    kept = [f"{path}:{n}: {line.strip()}" for path in files for n, line in enumerate(open(path), 1) if "// kept:" in line]
     rows.append(("-", "lines that say why a place is kept", kept))
     for point, what, places in sorted(rows, key=lambda row: row[0]):
         print(f"{point}  {len(places):4}  {what}")
