@@ -1,5 +1,5 @@
 -- What each entry of a script answers and leaves; an entry that is no call does nothing.
-use Rattle.std.specs.Prelude.{◌≡◌, ℕ, zero, suc, ◌-◌, Bool, true, false, Some, None, Ok, Err, is_err, Option, Result, slice_index}
+use Rattle.std.specs.Prelude.{◌≡◌, ℕ, zero, suc, ◌-◌, Bool, true, false, Some, None, Ok, Err, is_err, Option, Result, length, slice_get}
 use Rattle.fault.specs.declared.Fault.{Fault}
 use Rattle.journal.specs.Lookup.{Found}
 use Rattle.runs.specs.declared.Call.{Call}
@@ -10,7 +10,7 @@ use Rattle.script.specs.declared.Entry.{Entry}
 use Rattle.script.specs.declared.Entry.TheVariants as entry
 use Rattle.bench.specs.declared.machine.Answer.{Answer}
 use Rattle.bench.specs.declared.machine.Outcome.{Outcome}
-use Rattle.bench.specs.declared.machine.Outcome.TheVariants.{Done, Byte, Place, Word, NoLine}
+use Rattle.bench.specs.declared.machine.Outcome.TheVariants.{Done, Byte, Place, Carried}
 use Rattle.bench.specs.Machine.{words}
 
 -- the answers that refuse
@@ -48,15 +48,15 @@ call_of (entry.Level l) = None
 call_of entry.Lines = None
 
 -- what a call brings: the word of its line where a carry put one down
-abbrev pub brought : CallAnswer → ℕ → Result Outcome Fault
+abbrev pub brought : CallAnswer → Option ℕ → Result Outcome Fault
 brought (Ok told.Done) word = Ok Done
 brought (Ok (told.Byte v)) word = Ok (Byte v)
-brought (Ok (told.Carried true)) word = Ok (Word word)
-brought (Ok (told.Carried false)) word = Ok NoLine
+brought (Ok (told.Carried true)) word = Ok (Carried word)
+brought (Ok (told.Carried false)) word = Ok (Carried None)
 brought (Err f) word = Err f
 
 -- the answer of a call as it is printed, with the level that won
-abbrev pub shown : CallAnswer → Option ℕ → ℕ → Answer
+abbrev pub shown : CallAnswer → Option ℕ → Option ℕ → Answer
 shown answer winner word = record { winner = winner; outcome = brought answer word }
 
 -- the level that won the bus, after a grant
@@ -72,8 +72,8 @@ winner_of w call.Reset = None
 winner_of w call.Grant = Some w.board.arbitration.winner
 
 -- the word of the line put down last
-abbrev pub last_word : World → ℕ
-last_word w = slice_index w.journal (w.board.lines - 1)
+abbrev pub last_word : World → Option ℕ
+last_word w = slice_get (words w) (length (words w) - 1)
 
 abbrev pub shown_of : World → Call → Answer
 shown_of w c = shown (answer w c) (winner_of (after w c) c) (last_word (after w c))

@@ -4,7 +4,7 @@ use Rattle.std.specs.Fmt.{decimal}
 use Rattle.fault.specs.declared.Fault.{Fault}
 use Rattle.fault.specs.Text.{hexadecimal, fault_text}
 use Rattle.bench.specs.declared.machine.Outcome.{Outcome}
-use Rattle.bench.specs.declared.machine.Outcome.TheVariants.{Done, Byte, Place, Word, NoLine}
+use Rattle.bench.specs.declared.machine.Outcome.TheVariants.{Done, Byte, Place, Carried}
 use Rattle.bench.specs.declared.machine.Answer.{Answer}
 
 -- what was brought: a byte in two digits, a line by its place or by its word
@@ -12,8 +12,8 @@ abbrev pub outcome_text : Outcome → List ℕ
 outcome_text Done = codes "ok"
 outcome_text (Byte v) = hexadecimal 2 v
 outcome_text (Place place) = codes "line " ++ decimal place
-outcome_text (Word word) = codes "line " ++ hexadecimal 16 word
-outcome_text NoLine = codes "no line"
+outcome_text (Carried (Some word)) = codes "line " ++ hexadecimal 16 word
+outcome_text (Carried None) = codes "no line"
 
 -- the level that won the bus
 abbrev pub winner_text : Option ℕ → List ℕ

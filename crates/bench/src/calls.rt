@@ -1,7 +1,7 @@
-ghost use Rattle.std.specs.Prelude.{◌≡◌, ◌-◌, slice_index};
+ghost use Rattle.std.specs.Prelude.{◌≡◌};
 ghost use Rattle.runs.specs.World.{after, answer};
 ghost use Rattle.bench.specs.Machine.{world_of};
-ghost use Rattle.bench.specs.Calls.{call_of, last_word, shown_of, ticks, FoundLine, left_by, Answers};
+ghost use Rattle.bench.specs.Calls.{call_of, shown_of, ticks, FoundLine, left_by, Answers};
 
 use crate::machine::{Answer, Machine, Outcome};
 use board::Bus;
@@ -34,15 +34,6 @@ fn call_of(entry: Entry) -> Option<Call>
     }
 }
 
-// The word of the line put down last.
-// kept: 0 before the first line, as the definition has it; only a carry that put a line down shows the word
-fn last_word(words: &[u64], lines: u32) -> u64
-    ensures { result ≡ slice_index words.now (lines - 1) }
-{
-    let place = (lines as usize).saturating_sub(1);
-    words.get(place).copied().unwrap_or(0)
-}
-
 impl<M: Memory, R: Rack> Machine<M, R> {
     // One call of the bus.
     fn call(&mut self, bus: Bus, call: Call) -> (Bus, runs::Answer)
@@ -60,11 +51,10 @@ impl<M: Memory, R: Rack> Machine<M, R> {
         )
     }
 
-    fn tick(&mut self, first_bus: Bus, count: u32) -> Bus
+    fn tick(&mut self, mut bus: Bus, count: u32) -> Bus
         ensures { world_of M.Memory.meaning R.Rack.meaning self.new ≡ ticks count (world_of M.Memory.meaning R.Rack.meaning self.old) }
     {
-        let mut bus = first_bus;
-        for _i in 0..count {
+        for _ in 0..count {
             let (next, _) = self.call(bus, Call::Tick);
             bus = next;
         }
@@ -81,11 +71,11 @@ impl<M: Memory, R: Rack> Machine<M, R> {
             Call::Grant => Some(self.board.arbitration().winner),
             _ => None,
         };
-        let word = last_word(self.journal.as_slice(), self.board.lines());
+        let word = self.words().last().copied();
         (bus, Answer::shown(answer, winner, word))
     }
 
-    // Apart from its callers, so that the loop over the words keeps its registers: half as fast within them.
+    // Not inlined: within yard's loop it took twice the time.
     #[inline(never)]
     fn find(&self, address: u32) -> Answer
         ensures { FoundLine (world_of M.Memory.meaning R.Rack.meaning self.now) address result }

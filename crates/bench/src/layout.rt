@@ -18,7 +18,7 @@ pub type YardMemory = Protected<FlatMemory>;
 pub type YardRack = Pair<WeighingCard, Pair<WeighingCard, TicketPrinter>>;
 
 // A card of this level stands nowhere.
-// kept: a card is made for a number, and what stands at no level is a number above 14: the new form would ask it twice
+// kept: a script may name a level above 14, at which a card stands nowhere: an Option would say the same a second way
 const NO_LEVEL: u8 = 255;
 
 // An unused board with its memory, rack and journal: no call is performed yet.

@@ -9,7 +9,7 @@ use std::error::Error;
 use std::fmt;
 
 // What is wrong with a line.
-#[derive(Clone, Copy, Debug, PartialEq, Eq)]
+#[derive(Clone, Copy, Debug)]
 pub enum Wrong {
     Misread(Misread),
     Misplaced(Misplaced),

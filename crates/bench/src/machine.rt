@@ -20,20 +20,18 @@ pub struct Machine<M: Memory, R: Rack> {
 }
 
 // What an entry brings if it is not refused.
-#[derive(Clone, Copy, Debug, PartialEq, Eq)]
+#[derive(Clone, Copy)]
 pub enum Outcome {
     Done,
     Byte(u8),
     // the place of the line that was looked for
     Place(usize),
-    // the word of the line that a carry put down
-    Word(u64),
-    // a carry put down no line
-    NoLine,
+    // the word of the line that a carry put down, if it put one down
+    Carried(Option<u64>),
 }
 
 // What an entry answers.
-#[derive(Clone, Copy, Debug, PartialEq, Eq)]
+#[derive(Clone, Copy)]
 pub struct Answer {
     // for a grant the level that won the bus
     pub winner: Option<u8>,
@@ -57,14 +55,14 @@ impl Answer {
     }
 
     // The answer of a call as it is printed.
-    pub(crate) fn shown(answer: runs::Answer, winner: Option<u8>, word: u64) -> Answer
+    pub(crate) fn shown(answer: runs::Answer, winner: Option<u8>, word: Option<u64>) -> Answer
         ensures { result ≡ shown answer winner word }
     {
         let outcome = answer.map(|reply| match reply {
             Reply::Done => Outcome::Done,
             Reply::Byte(byte) => Outcome::Byte(byte),
-            Reply::Carried(true) => Outcome::Word(word),
-            Reply::Carried(false) => Outcome::NoLine,
+            Reply::Carried(true) => Outcome::Carried(word),
+            Reply::Carried(false) => Outcome::Carried(None),
         });
         Answer { winner, outcome }
     }
@@ -78,8 +76,8 @@ impl fmt::Display for Outcome {
             Outcome::Done => write!(f, "ok"),
             Outcome::Byte(byte) => write!(f, "{byte:02X}"),
             Outcome::Place(place) => write!(f, "line {place}"),
-            Outcome::Word(word) => write!(f, "line {word:016X}"),
-            Outcome::NoLine => write!(f, "no line"),
+            Outcome::Carried(Some(word)) => write!(f, "line {word:016X}"),
+            Outcome::Carried(None) => write!(f, "no line"),
         }
     }
 }

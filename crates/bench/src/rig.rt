@@ -21,7 +21,7 @@ pub struct Rig {
 }
 
 // Why an entry may not stand where it stands.
-#[derive(Clone, Copy, Debug, PartialEq, Eq)]
+#[derive(Clone, Copy, Debug)]
 pub enum Misplaced {
     GivenTwice,
     AfterCall,

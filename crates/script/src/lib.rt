@@ -42,7 +42,7 @@ pub enum Entry {
 }
 
 // Why a line is no entry.
-#[derive(Clone, Copy, Debug, PartialEq, Eq)]
+#[derive(Clone, Copy, Debug)]
 pub enum Misread {
     UnknownEntry,
     TooFewWords,

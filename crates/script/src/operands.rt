@@ -87,7 +87,7 @@ pub(crate) fn read_operand(operand: Option<Operand>, word: Option<&str>) -> Opti
     match (operand, word) {
         (Some(taken), Some(word)) => read_number(word, taken.base, taken.limit),
         (Some(taken), None) => taken.absent,
-        // kept: with None here, each of the 18 arms that build an entry would have to unwrap its numbers
+        // kept: too few and too many words come before a bad number, so operands are read before the entry is built
         (None, _) => Some(0),
     }
 }

@@ -30,7 +30,6 @@ fn run(rt: &HostRuntime, text: &str) -> io::Result<()> {
     playing::play(out, steps.as_slice(), machine, bus)
 }
 
-// Reads the script and plays it.
 fn play_script(rt: &HostRuntime) -> io::Result<()> {
     match read_text(rt) {
         Ok(text) => run(rt, text.as_str()),

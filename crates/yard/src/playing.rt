@@ -48,14 +48,13 @@ pub(crate) fn play<W: Write + Drop, M: Memory + Drop, R: Rack + Drop>(
     out: W,
     steps: &[Step],
     machine: Machine<M, R>,
-    first_bus: Bus,
+    mut bus: Bus,
 ) -> io::Result<()> {
     let mut player = Player {
         out,
         machine,
         counts: Counts::new(),
     };
-    let mut bus = first_bus;
     for step in steps {
         bus = player.play_step(bus, step)?;
     }

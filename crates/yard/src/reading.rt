@@ -30,7 +30,6 @@ impl fmt::Display for Words<'_> {
     }
 }
 
-// Takes a line of a script into the rig.
 fn read_step<'a>(rig: &mut Rig, line: &'a str) -> Result<Option<Step<'a>>, Wrong> {
     let entry = take_line(rig, line)?;
     Ok(entry.map(|entry| Step {

@@ -18,7 +18,7 @@ fn write_totals<W: Write>(out: &mut W, lines: u32, words: &[u64], length: usize)
 }
 
 // What a card gave or took by the journal, beside what it holds.
-fn write_level<W: Write, R: Rack>(
+fn write_level_account<W: Write, R: Rack>(
     out: &mut W,
     words: &[u64],
     rack: &R,
@@ -56,7 +56,7 @@ pub(crate) fn write_accounts<W: Write, M: Memory, R: Rack>(
     let words = machine.words();
     write_totals(out, machine.board.lines(), words, machine.journal.len())?;
     for (level, arrived) in (0u8..15).zip(counts.arrived) {
-        write_level(out, words, &machine.rack, level, arrived)?;
+        write_level_account(out, words, &machine.rack, level, arrived)?;
     }
     Ok(())
 }

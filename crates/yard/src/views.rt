@@ -15,9 +15,7 @@ use timer::Setting;
 fn high_bits(arbitration: Arbitration) -> u8
     ensures { result ≡ high_bits arbitration }
 {
-    128 * u8::from(arbitration.bit7)
-        + 64 * u8::from(arbitration.mask)
-        + 32 * u8::from(arbitration.timeout)
+    u8::from(arbitration) / 32 * 32
 }
 
 #[derive(Drop)]
