@@ -31,14 +31,22 @@ impl From<Misplaced> for Wrong {
     }
 }
 
+impl Wrong {
+    pub fn text(self) -> &'static str
+        ensures { result.now ≡ told self }
+    {
+        match self {
+            Wrong::Misread(misread) => misread.text(),
+            Wrong::Misplaced(misplaced) => misplaced.text(),
+        }
+    }
+}
+
 impl fmt::Display for Wrong {
     ghost output = { λ wrong. Some (told wrong) };
 
     fn fmt<W: fmt::Write>(&self, f: &mut fmt::Formatter<W>) -> fmt::Result {
-        match self {
-            Wrong::Misread(misread) => write!(f, "{misread}"),
-            Wrong::Misplaced(misplaced) => write!(f, "{misplaced}"),
-        }
+        f.write_str(self.text())
     }
 }
 

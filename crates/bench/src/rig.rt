@@ -27,14 +27,22 @@ pub enum Misplaced {
     AfterCall,
 }
 
+impl Misplaced {
+    pub fn text(self) -> &'static str
+        ensures { result.now ≡ told self }
+    {
+        match self {
+            Misplaced::GivenTwice => "entry given twice",
+            Misplaced::AfterCall => "rig entry after the first call",
+        }
+    }
+}
+
 impl fmt::Display for Misplaced {
     ghost output = { λ misplaced. Some (told misplaced) };
 
     fn fmt<W: fmt::Write>(&self, f: &mut fmt::Formatter<W>) -> fmt::Result {
-        f.write_str(match self {
-            Misplaced::GivenTwice => "entry given twice",
-            Misplaced::AfterCall => "rig entry after the first call",
-        })
+        f.write_str(self.text())
     }
 }
 

@@ -50,16 +50,24 @@ pub enum Misread {
     BadNumber,
 }
 
-impl fmt::Display for Misread {
-    ghost output = { λ misread. Some (told misread) };
-
-    fn fmt<W: fmt::Write>(&self, f: &mut fmt::Formatter<W>) -> fmt::Result {
-        f.write_str(match self {
+impl Misread {
+    pub fn text(self) -> &'static str
+        ensures { result.now ≡ told self }
+    {
+        match self {
             Misread::UnknownEntry => "unknown entry",
             Misread::TooFewWords => "too few words",
             Misread::TooManyWords => "too many words",
             Misread::BadNumber => "a number that does not fit",
-        })
+        }
+    }
+}
+
+impl fmt::Display for Misread {
+    ghost output = { λ misread. Some (told misread) };
+
+    fn fmt<W: fmt::Write>(&self, f: &mut fmt::Formatter<W>) -> fmt::Result {
+        f.write_str(self.text())
     }
 }
 
