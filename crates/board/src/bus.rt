@@ -124,9 +124,7 @@ impl Bus {
     pub fn load<M: Memory>(&self, memory: &M, address: u32) -> Result<u8, Fault>
         ensures { result ≡ loaded (M.Memory.meaning memory.now) address }
     {
-        if address >= 0x100_0000 {
-            return Err(Fault::own(Refusal::TooLarge, address));
-        }
+        journal::check_address(address)?;
         Ok(memory.read(address)?)
     }
 
@@ -142,9 +140,7 @@ impl Bus {
     ) -> Result<(), Fault>
         ensures { these_stored board.new (M.Memory.meaning memory.new) journal.new result ≡ stored board.old (M.Memory.meaning memory.old) journal.old address byte }
     {
-        if address >= 0x100_0000 {
-            return Err(Fault::own(Refusal::TooLarge, address));
-        }
+        journal::check_address(address)?;
         if journal::is_full(board.lines, journal.len()) {
             return Err(Fault::own(Refusal::JournalFull, address));
         }

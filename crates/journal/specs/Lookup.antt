@@ -1,5 +1,5 @@
 -- Which line wrote an address.
-use Rattle.std.specs.Prelude.{◌≡◌, ℕ, ◌+◌, ◌%◌, ◌^◌, ◌<◌, ◌≤◌, Bool, true, false, ◌&&◌, ◌||◌, List, length, Ok, Err, Result, ◌==◌, slice_index}
+use Rattle.std.specs.Prelude.{◌≡◌, ℕ, ◌+◌, ◌%◌, ◌^◌, ◌<◌, ◌≤◌, Bool, true, false, cond, ◌&&◌, ◌||◌, List, length, Ok, Err, Result, ◌==◌, slice_index, nat_le}
 use Rattle.fault.specs.declared.Fault.{Fault}
 use Rattle.fault.specs.declared.Refusal.TheVariants.{TooLarge, NoWriter}
 use Rattle.fault.specs.Numbers.{own}
@@ -27,6 +27,10 @@ wrote_as (Err _) a = false
 -- whether a word wrote the address; one that is no line wrote nothing
 abbrev pub wrote : ℕ → ℕ → Bool
 wrote w a = wrote_as (unpacked w) a
+
+-- an address of 2 ^ 24 and above is too large
+abbrev pub address_answer : ℕ → Result (Unit {0}) Fault
+address_answer a = cond (nat_le 16777216 a) (Err (own TooLarge a)) (Ok tt)
 
 -- an answer: the place of a word that wrote the address, or the refusal of one too large, or that no word wrote it
 abbrev pub Found : List ℕ → ℕ → Result ℕ Fault → Type 0

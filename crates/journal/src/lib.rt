@@ -12,7 +12,7 @@ use std::fmt;
 
 mod lookup;
 
-pub use lookup::find_writer;
+pub use lookup::{check_address, find_writer};
 
 // What a line tells of.
 #[derive(Clone, Copy, Debug, PartialEq, Eq)]

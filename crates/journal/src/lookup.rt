@@ -1,5 +1,5 @@
 ghost use Rattle.std.specs.Prelude.{◌≡◌};
-ghost use Rattle.journal.specs.Lookup.{writes, reaches, wrote, Found};
+ghost use Rattle.journal.specs.Lookup.{writes, reaches, wrote, address_answer, Found};
 
 use super::{Kind, Line};
 use fault::{Fault, Refusal};
@@ -32,13 +32,21 @@ fn wrote(word: u64, address: u32) -> bool
     Line::unpack(word).is_ok_and(|line| line.kind.writes_memory() && line.reaches_address(address))
 }
 
-// The place of a word that wrote the address.
-pub fn find_writer(words: &[u64], address: u32) -> Result<usize, Fault>
-    ensures { Found words.now address result }
+// An address of more than 24 bits is too large.
+pub fn check_address(address: u32) -> Result<(), Fault>
+    ensures { result ≡ address_answer address }
 {
     if address >= 0x100_0000 {
         return Err(Fault::own(Refusal::TooLarge, address));
     }
+    Ok(())
+}
+
+// The place of a word that wrote the address.
+pub fn find_writer(words: &[u64], address: u32) -> Result<usize, Fault>
+    ensures { Found words.now address result }
+{
+    check_address(address)?;
     words
         .iter()
         .position(|word| wrote(*word, address))
