@@ -11,6 +11,7 @@ use runs::Reply;
 use std::fmt;
 
 // A board, and what its calls go to.
+// kept: a Model cannot have World as its Value, for a memory's bytes are a function there; so contracts name world_of
 #[derive(Drop)]
 pub struct Machine<M: Memory, R: Rack> {
     pub board: Board,
