@@ -6,7 +6,6 @@ ghost use Rattle.script.specs.Entries.{reading, WithinLine, is_rig_entry, told};
 use names::Name;
 use std::error::Error;
 use std::fmt;
-use words::{Words, cut_comment};
 
 mod build;
 mod names;
@@ -15,6 +14,7 @@ mod operands;
 mod words;
 
 pub use number::{Base, read_number};
+pub use words::{Words, words_of};
 
 // An entry of a script.
 #[derive(Clone, Copy)]
@@ -78,9 +78,7 @@ pub fn read_entry(line: &str) -> Result<Option<Entry>, Misread>
     ensures answer { result ≡ reading line.now }
     ensures within { IfOk result WithinLine }
 {
-    let mut words = Words {
-        rest: cut_comment(line),
-    };
+    let mut words = words_of(line);
     let Some(name) = words.next() else {
         return Ok(None);
     };

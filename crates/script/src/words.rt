@@ -9,7 +9,7 @@ ghost use Rattle.script.specs.Words.{is_blank, from_word, before_comment, word_o
 const BLANKS: [char; 3] = [' ', '\t', '\r'];
 
 // The line up to its comment.
-pub(crate) fn cut_comment(line: &str) -> &str
+fn cut_comment(line: &str) -> &str
     ensures { result.now ≡ before_comment line.now }
 {
     line.split_once('#').map_or(line, |(plain, _)| plain)
@@ -33,8 +33,17 @@ fn word_len(text: &str) -> usize
 
 // The words of a text, one after the other.
 #[derive(Drop)]
-pub(crate) struct Words<'a> {
-    pub rest: &'a str,
+pub struct Words<'a> {
+    rest: &'a str,
+}
+
+// The words of a line up to its comment.
+pub fn words_of(line: &str) -> Words<'_>
+    ensures { result.rest.now ≡ before_comment line.now }
+{
+    Words {
+        rest: cut_comment(line),
+    }
 }
 
 impl<'a> Iterator for Words<'a> {

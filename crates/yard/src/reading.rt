@@ -1,7 +1,7 @@
 // The text of a script, and its entries with the lines that they stand in.
 
 use bench::{Rig, Wrong, take_line};
-use script::Entry;
+use script::{Entry, words_of};
 use std::alloc::{AllocError, Global};
 use std::io::Read;
 use std::{env, fmt, fs, io};
@@ -10,23 +10,16 @@ use std::{env, fmt, fs, io};
 #[derive(Drop)]
 pub(crate) struct Step<'a> {
     pub entry: Entry,
-    pub line: Words<'a>,
+    pub line: LineWords<'a>,
 }
 
 // A line's words up to its comment, with single blanks between.
 #[derive(Clone, Copy)]
-pub(crate) struct Words<'a>(&'a str);
+pub(crate) struct LineWords<'a>(&'a str);
 
-impl fmt::Display for Words<'_> {
+impl fmt::Display for LineWords<'_> {
     fn fmt<W: fmt::Write>(&self, f: &mut fmt::Formatter<W>) -> fmt::Result {
-        let code = match self.0.split_once('#') {
-            Some((code, _)) => code,
-            None => self.0,
-        };
-        let words = code
-            .split([' ', '\t', '\r'])
-            .filter(|word| !word.is_empty());
-        f.write_joined(words, " ")
+        f.write_joined(words_of(self.0), " ")
     }
 }
 
@@ -34,7 +27,7 @@ fn read_step<'a>(rig: &mut Rig, line: &'a str) -> Result<Option<Step<'a>>, Wrong
     let entry = take_line(rig, line)?;
     Ok(entry.map(|entry| Step {
         entry,
-        line: Words(line),
+        line: LineWords(line),
     }))
 }
 
