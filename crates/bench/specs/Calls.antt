@@ -28,11 +28,7 @@ line (Err f) = record { winner = None; outcome = Err f }
 
 -- the call that an entry is, but for ticks and the look-up
 abbrev pub call_of : Entry → Option Call
-call_of (entry.Memory n) = None
-call_of (entry.Protect lo hi) = None
-call_of (entry.Scale l) = None
-call_of (entry.Printer l) = None
-call_of (entry.Journal n) = None
+call_of (entry.Part p) = None
 call_of (entry.In p) = Some (call.ReadPort p)
 call_of (entry.Out p v) = Some (call.WritePort p v)
 call_of (entry.Tick n) = None
@@ -89,11 +85,7 @@ FoundLine w a found = (r : Result ℕ Fault) × Found (words w) a r × (found �
 
 -- what an entry leaves
 abbrev pub left_by : Entry → World → World
-left_by (entry.Memory n) w = w
-left_by (entry.Protect lo hi) w = w
-left_by (entry.Scale l) w = w
-left_by (entry.Printer l) w = w
-left_by (entry.Journal n) w = w
+left_by (entry.Part p) w = w
 left_by (entry.In p) w = after w (call.ReadPort p)
 left_by (entry.Out p v) w = after w (call.WritePort p v)
 left_by (entry.Tick n) w = ticks n w
@@ -110,11 +102,7 @@ left_by entry.Lines w = w
 
 -- the answers of an entry; which of several lines the look-up gives is free
 abbrev pub Answers : World → Entry → Answer → Type 0
-Answers w (entry.Memory n) r = r ≡ done
-Answers w (entry.Protect lo hi) r = r ≡ done
-Answers w (entry.Scale l) r = r ≡ done
-Answers w (entry.Printer l) r = r ≡ done
-Answers w (entry.Journal n) r = r ≡ done
+Answers w (entry.Part p) r = r ≡ done
 Answers w (entry.In p) r = r ≡ shown_of w (call.ReadPort p)
 Answers w (entry.Out p v) r = r ≡ shown_of w (call.WritePort p v)
 Answers w (entry.Tick n) r = r ≡ done

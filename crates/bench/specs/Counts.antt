@@ -21,11 +21,7 @@ calls n = record { calls = n; arrival = None }
 
 -- as how many calls an entry counts, and the level that it brings a unit to
 abbrev pub share_of : Entry → Share
-share_of (entry.Memory n) = calls 0
-share_of (entry.Protect lo hi) = calls 0
-share_of (entry.Scale l) = calls 0
-share_of (entry.Printer l) = calls 0
-share_of (entry.Journal n) = calls 0
+share_of (entry.Part p) = calls 0
 share_of (entry.In p) = calls 1
 share_of (entry.Out p v) = calls 1
 share_of (entry.Tick n) = calls n

@@ -3,8 +3,8 @@ use Rattle.std.specs.Prelude.{ℕ, Bool, true, false, cond, List, is_some, Some,
 use Rattle.script.specs.declared.Entry.{Entry}
 use Rattle.script.specs.declared.Entry.TheVariants as entry
 use Rattle.bench.specs.declared.rig.Rig.{Rig}
-use Rattle.bench.specs.declared.rig.Part.{Part}
-use Rattle.bench.specs.declared.rig.Part.TheVariants as part
+use Rattle.script.specs.declared.Part.{Part}
+use Rattle.script.specs.declared.Part.TheVariants as part
 use Rattle.bench.specs.declared.rig.Misplaced.{Misplaced}
 use Rattle.bench.specs.declared.rig.Misplaced.TheVariants.{GivenTwice, AfterCall}
 
@@ -18,11 +18,7 @@ bare = rig None None None None None None false
 
 -- the part that an entry lays out; calls and views lay out none
 abbrev pub part_of : Entry → Option Part
-part_of (entry.Memory n) = Some (part.Memory n)
-part_of (entry.Protect lo hi) = Some (part.Protect lo hi)
-part_of (entry.Scale l) = Some (part.Scale l)
-part_of (entry.Printer l) = Some (part.Printer l)
-part_of (entry.Journal n) = Some (part.Journal n)
+part_of (entry.Part p) = Some p
 part_of (entry.In p) = None
 part_of (entry.Out p v) = None
 part_of (entry.Tick n) = None

@@ -26,14 +26,7 @@ impl From<Entry> for Share {
         let (calls, arrival) = match entry {
             Entry::Tick(count) => (count, None),
             Entry::Arrive(level, _) => (1, Some(level)),
-            Entry::Memory(_)
-            | Entry::Protect(_, _)
-            | Entry::Scale(_)
-            | Entry::Printer(_)
-            | Entry::Journal(_)
-            | Entry::State
-            | Entry::Level(_)
-            | Entry::Lines => (0, None),
+            Entry::Part(_) | Entry::State | Entry::Level(_) | Entry::Lines => (0, None),
             _ => (1, None),
         };
         Share { calls, arrival }

@@ -1,7 +1,7 @@
 ghost use Rattle.std.specs.Prelude.{◌≡◌, Some};
 ghost use Rattle.bench.specs.Rig.{bare, part_of, is_given, with_part, placed, after, told};
 
-use script::Entry;
+use script::{Entry, Part};
 use std::error::Error;
 use std::fmt;
 
@@ -48,32 +48,6 @@ impl fmt::Display for Misplaced {
 
 impl Error for Misplaced {}
 
-// An entry that lays out a part of the rig.
-#[derive(Clone, Copy)]
-enum Part {
-    Memory(u32),
-    Protect(u32, u32),
-    Scale(u8),
-    Printer(u8),
-    Journal(u32),
-}
-
-impl Part {
-    // kept: a TryFrom would need an error for the entries that lay out none, which no caller looks at
-    fn of(entry: Entry) -> Option<Part>
-        ensures { result ≡ part_of entry }
-    {
-        match entry {
-            Entry::Memory(length) => Some(Part::Memory(length)),
-            Entry::Protect(lo, hi) => Some(Part::Protect(lo, hi)),
-            Entry::Scale(level) => Some(Part::Scale(level)),
-            Entry::Printer(level) => Some(Part::Printer(level)),
-            Entry::Journal(length) => Some(Part::Journal(length)),
-            _ => None,
-        }
-    }
-}
-
 impl Rig {
     // With nothing given.
     pub fn new() -> Rig
@@ -113,7 +87,7 @@ impl Rig {
         ensures answer { result ≡ placed self.old (part_of entry) }
         ensures after { self.new ≡ after self.old (part_of entry) }
     {
-        let Some(part) = Part::of(entry) else {
+        let Entry::Part(part) = entry else {
             self.closed = true;
             return Ok(());
         };

@@ -6,6 +6,8 @@ use Rattle.script.specs.declared.number.Base.TheVariants.{Decimal, Hexadecimal}
 use Rattle.script.specs.declared.names.Name.{Name}
 use Rattle.script.specs.declared.names.Name.TheVariants as name
 use Rattle.script.specs.declared.operands.Operand.{Operand}
+use Rattle.script.specs.declared.Part.{Part}
+use Rattle.script.specs.declared.Part.TheVariants as part
 use Rattle.script.specs.declared.Entry.{Entry}
 use Rattle.script.specs.declared.Entry.TheVariants as entry
 use Rattle.script.specs.declared.Misread.{Misread}
@@ -109,11 +111,11 @@ AbsentWithin (Some o) = unwrap_or o.absent 0 ≤ o.limit
 
 -- the entry of a name with its operands
 abbrev pub built : Name → ℕ → ℕ → Entry
-built name.Memory a b = entry.Memory a
-built name.Protect a b = entry.Protect a b
-built name.Scale a b = entry.Scale a
-built name.Printer a b = entry.Printer a
-built name.Journal a b = entry.Journal a
+built name.Memory a b = entry.Part (part.Memory a)
+built name.Protect a b = entry.Part (part.Protect a b)
+built name.Scale a b = entry.Part (part.Scale a)
+built name.Printer a b = entry.Part (part.Printer a)
+built name.Journal a b = entry.Part (part.Journal a)
 built name.In a b = entry.In a
 built name.Out a b = entry.Out a b
 built name.Tick a b = entry.Tick a
@@ -180,13 +182,17 @@ plain_reading t = cond (is_empty (first_word t)) (Ok None) (some_read (entry_cal
 abbrev pub reading : List ℕ → Result (Option Entry) Misread
 reading line = plain_reading (before_comment line)
 
+-- the numbers of a part are within their limits
+abbrev pub PartWithin : Part → Type 0
+PartWithin (part.Memory a) = a ≤ 16777216
+PartWithin (part.Protect a b) = (a < 2 ^ 32) × (b < 2 ^ 32)
+PartWithin (part.Scale a) = a < 2 ^ 8
+PartWithin (part.Printer a) = a < 2 ^ 8
+PartWithin (part.Journal a) = a ≤ 65536
+
 -- the numbers of an entry are within their limits
 abbrev pub Within : Entry → Type 0
-Within (entry.Memory a) = a ≤ 16777216
-Within (entry.Protect a b) = (a < 2 ^ 32) × (b < 2 ^ 32)
-Within (entry.Scale a) = a < 2 ^ 8
-Within (entry.Printer a) = a < 2 ^ 8
-Within (entry.Journal a) = a ≤ 65536
+Within (entry.Part p) = PartWithin p
 Within (entry.In a) = a < 2 ^ 16
 Within (entry.Out a b) = (a < 2 ^ 16) × (b < 2 ^ 8)
 Within (entry.Tick a) = a < 2 ^ 24
@@ -208,11 +214,7 @@ WithinLine (Some e) = Within e
 
 -- the entries that lay out the board before the first call
 abbrev pub is_rig_entry : Entry → Bool
-is_rig_entry (entry.Memory a) = true
-is_rig_entry (entry.Protect a b) = true
-is_rig_entry (entry.Scale a) = true
-is_rig_entry (entry.Printer a) = true
-is_rig_entry (entry.Journal a) = true
+is_rig_entry (entry.Part p) = true
 is_rig_entry (entry.In a) = false
 is_rig_entry (entry.Out a b) = false
 is_rig_entry (entry.Tick a) = false

@@ -4,7 +4,7 @@ ghost use Rattle.script.specs.Entries.{first_of, second_of, limit_of, built, ent
 
 use super::names::Name;
 use super::operands::{is_lacking, is_surplus, read_operand};
-use super::{Entry, Misread};
+use super::{Entry, Misread, Part};
 
 impl Name {
     // The entry with its operands, which are within their limits.
@@ -15,11 +15,11 @@ impl Name {
         ensures within { Within result }
     {
         match self {
-            Name::Memory => Entry::Memory(first),
-            Name::Protect => Entry::Protect(first, second),
-            Name::Scale => Entry::Scale(first as u8),
-            Name::Printer => Entry::Printer(first as u8),
-            Name::Journal => Entry::Journal(first),
+            Name::Memory => Entry::Part(Part::Memory(first)),
+            Name::Protect => Entry::Part(Part::Protect(first, second)),
+            Name::Scale => Entry::Part(Part::Scale(first as u8)),
+            Name::Printer => Entry::Part(Part::Printer(first as u8)),
+            Name::Journal => Entry::Part(Part::Journal(first)),
             Name::In => Entry::In(first as u16),
             Name::Out => Entry::Out(first as u16, second as u8),
             Name::Tick => Entry::Tick(first),

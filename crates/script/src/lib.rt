@@ -16,15 +16,21 @@ mod words;
 pub use number::{Base, read_number};
 pub use words::{Words, words_of};
 
-// An entry of a script.
+// A part of the board that is laid out before the first call.
 #[derive(Clone, Copy)]
-pub enum Entry {
+pub enum Part {
     Memory(u32),
     // from the first address up to but not the second
     Protect(u32, u32),
     Scale(u8),
     Printer(u8),
     Journal(u32),
+}
+
+// An entry of a script.
+#[derive(Clone, Copy)]
+pub enum Entry {
+    Part(Part),
     In(u16),
     Out(u16, u8),
     Tick(u32),
@@ -91,12 +97,5 @@ pub fn read_entry(line: &str) -> Result<Option<Entry>, Misread>
 pub fn is_rig(entry: Entry) -> bool
     ensures { result ≡ is_rig_entry entry }
 {
-    matches!(
-        entry,
-        Entry::Memory(_)
-            | Entry::Protect(_, _)
-            | Entry::Scale(_)
-            | Entry::Printer(_)
-            | Entry::Journal(_)
-    )
+    matches!(entry, Entry::Part(_))
 }
