@@ -224,6 +224,7 @@ impl Board {
 
     // Moves one unit that has passed the checks, and puts its line down.
     // kept: the references, as at carry
+    // kept: the bound of the lines goes from is_full by check to here: in a Transfer, each that specs/ makes would owe it
     fn perform<M: Memory, R: Rack>(
         &mut self,
         transfer: Transfer,
