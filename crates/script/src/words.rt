@@ -46,6 +46,7 @@ pub fn words_of(line: &str) -> Words<'_>
     }
 }
 
+// kept: with split and filter it stayed open in read_entry that the pieces kept are word_of, each past the one before
 impl<'a> Iterator for Words<'a> {
     type Item = &'a str;
 
