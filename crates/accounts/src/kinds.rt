@@ -1,7 +1,7 @@
 ghost use Rattle.std.specs.Prelude.{◌≡◌};
 ghost use Rattle.accounts.specs.Kinds.{IsBelow, with_line, tallied};
 
-use crate::lines::{Count, count_lines};
+use crate::{Count, count_lines};
 use journal::{Kind, Line};
 
 // The lines of a journal by kind.
@@ -14,13 +14,13 @@ pub struct Totals {
 }
 
 impl Count for Totals {
-    type Of = ();
+    type Selection = ();
 
     ghost with_line = { λ _ t l. with_line t l };
 
     ghost Below = { IsBelow };
 
-    fn count(&mut self, line: Line, _of: ()) {
+    fn count(&mut self, line: Line, _selection: ()) {
         match line.kind {
             Kind::CardToMemory => self.to_memory += 1,
             Kind::MemoryToCard => self.to_card += 1,

@@ -1,7 +1,7 @@
 ghost use Rattle.std.specs.Prelude.{◌≡◌};
 ghost use Rattle.accounts.specs.Levels.{IsBelow, with_line, tallied_level};
 
-use crate::lines::{Count, count_lines};
+use crate::{Count, count_lines};
 use journal::{Kind, Line};
 
 // The DMA lines of a journal at one level.
@@ -17,7 +17,7 @@ pub struct LevelTotals {
 
 impl Count for LevelTotals {
     // the level
-    type Of = u8;
+    type Selection = u8;
 
     ghost with_line = { with_line };
 
