@@ -11,7 +11,7 @@ use Rattle.script.specs.declared.Entry.TheVariants as entry
 use Rattle.bench.specs.declared.machine.Answer.{Answer}
 use Rattle.bench.specs.declared.machine.Outcome.{Outcome}
 use Rattle.bench.specs.declared.machine.Outcome.TheVariants.{Done, Byte, Place, Carried}
-use Rattle.bench.specs.Machine.{words}
+use Rattle.runs.specs.Law.{words}
 
 -- the answers that refuse
 abbrev pub refuses : Answer → Bool

@@ -1,5 +1,6 @@
 ghost use Rattle.std.specs.Prelude.{◌≡◌, Some};
-ghost use Rattle.bench.specs.Machine.{world_of, words};
+ghost use Rattle.runs.specs.Law.{words};
+ghost use Rattle.bench.specs.Machine.{world_of};
 ghost use Rattle.bench.specs.Calls.{refuses, line, shown};
 ghost use Rattle.bench.specs.Text.{outcome_text, answer_text};
 
