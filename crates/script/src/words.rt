@@ -55,6 +55,9 @@ impl<'a> Iterator for Words<'a> {
     ghost remaining = { λ words. at_most (length words.rest.now) };
 
     fn next(&mut self) -> Option<&'a str> {
+        if self.rest.is_empty() {
+            return None;
+        }
         let text = skip_blanks(self.rest);
         let (word, rest) = text.split_at(word_len(text));
         self.rest = rest;
