@@ -35,6 +35,10 @@ kind_of_number MemoryToCard = refl
 kind_of_number Verify = refl
 kind_of_number Store = refl
 
+-- a number that names a kind is that kind's number
+pub number_of_kind_of : (n : ℕ) (k : Kind) → kind_of n ≡ Some k → number_of_kind k ≡ n
+number_of_kind_of n k h = grind (arith, common_steps)
+
 bit_back : (b : Bool) (n : ℕ) → n ≡ bit b → eqb n 1 ≡ b
 bit_back true n e = grind (arith, common_steps)
 bit_back false n e = grind (arith, common_steps)
