@@ -75,7 +75,7 @@ impl fmt::Display for Outcome {
 
     fn fmt<W: fmt::Write>(&self, f: &mut fmt::Formatter<W>) -> fmt::Result {
         match self {
-            Outcome::Done => write!(f, "ok"),
+            Outcome::Done => f.write_str("ok"),
             Outcome::Byte(byte) => write!(f, "{byte:02X}"),
             Outcome::Place(place) => write!(f, "line {place}"),
             Outcome::Carried(Some(word)) => write!(f, "line {word:016X}"),
@@ -92,8 +92,8 @@ impl fmt::Display for Answer {
             write!(f, "level {level} ")?;
         }
         match self.outcome {
-            Ok(outcome) => write!(f, "{outcome}"),
-            Err(fault) => write!(f, "{fault}"),
+            Ok(outcome) => outcome.fmt(f),
+            Err(fault) => fault.fmt(f),
         }
     }
 }
