@@ -1,9 +1,13 @@
 -- What is printed of the board's registers.
-use Rattle.std.specs.Prelude.{ℕ, Bool, ◌+◌, ◌*◌, List, ◌++◌, codes, slice_index, if◌then◌else◌}
+use Rattle.std.specs.Prelude.{ℕ, Bool, Ok, Err, Result, ◌+◌, ◌*◌, List, ◌++◌, codes, slice_index, if◌then◌else◌}
 use Rattle.std.specs.Fmt.{decimal}
 use Rattle.std.specs.declared.option.Option.{Option}
 use Rattle.std.specs.declared.option.Option.TheVariants.{None, Some}
 use Rattle.fault.specs.Text.{hexadecimal}
+use Rattle.fault.specs.declared.Fault.{Fault}
+use Rattle.journal.specs.declared.Line.{Line}
+use Rattle.journal.specs.Layout.{unpacked}
+use Rattle.journal.specs.Text.{line_text}
 use Rattle.dma.specs.declared.channel.Channel.{Channel}
 use Rattle.dma.specs.declared.controller.Controller.{Controller}
 use Rattle.dma.specs.Channels.{memory_address}
@@ -16,6 +20,11 @@ use Rattle.board.specs.Ports.{bit}
 -- bits 7 to 5 of port 0090
 abbrev pub high_bits : Arbitration → ℕ
 high_bits a = 128 * bit a.bit7 + 64 * bit a.mask + 32 * bit a.timeout
+
+-- a channel's registers up to the mask, the address in its 24 bits
+abbrev pub registers_text : Channel → List ℕ
+registers_text c =
+    codes ": address " ++ (hexadecimal 6 (memory_address c) ++ (codes " count " ++ (hexadecimal 4 c.count ++ (codes " io " ++ (hexadecimal 4 c.io ++ (codes " mode " ++ (hexadecimal 2 c.mode ++ codes " ")))))))
 
 -- the address in its 24 bits
 abbrev pub channel_text : ℕ → Channel → List ℕ
@@ -42,3 +51,12 @@ abbrev pub ports_text : Registers → List ℕ
 ports_text r =
     codes "ports: 0061 " ++ (hexadecimal 2 r.port61 ++ (codes " 0090 " ++ (hexadecimal 2 (high_bits r.arbitration) ++ (codes " winner " ++ (decimal r.arbitration.winner
     ++ (codes " latch " ++ (decimal (bit r.timers.latch) ++ (codes " lines " ++ decimal r.lines))))))))
+
+-- a word of the journal in sixteen digits, and the fields of the line that it holds
+abbrev pub held_text : ℕ → Result Line Fault → List ℕ
+held_text w (Ok l) = hexadecimal 16 w ++ (codes " " ++ line_text l)
+held_text w (Err f) = hexadecimal 16 w ++ codes " no line"
+
+-- a word by its place
+abbrev pub word_text : ℕ → ℕ → List ℕ
+word_text place w = codes "line " ++ (decimal place ++ (codes ": " ++ held_text w (unpacked w)))
