@@ -8,11 +8,14 @@ ghost use Rattle.script.specs.Words.{is_blank, from_word, before_comment, word_o
 // What parts the words of a line.
 const BLANKS: [char; 3] = [' ', '\t', '\r'];
 
-// The line up to its comment.
+// The line up to its comment; nothing is searched in an empty line or in a comment alone.
 fn cut_comment(line: &str) -> &str
     ensures { result.now ≡ before_comment line.now }
 {
-    line.split_once('#').map_or(line, |(plain, _)| plain)
+    match line.as_bytes().first() {
+        None | Some(b'#') => "",
+        Some(_) => line.split_once('#').map_or(line, |(plain, _)| plain),
+    }
 }
 
 // The text from its first word on.
