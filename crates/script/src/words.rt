@@ -8,7 +8,7 @@ ghost use Rattle.script.specs.Words.{is_blank, from_word, before_comment, word_o
 // What parts the words of a line.
 const BLANKS: [char; 3] = [' ', '\t', '\r'];
 
-// The line up to its comment; nothing is searched in an empty line or in a comment alone.
+// The line up to its comment; nothing is looked for in an empty line or in a comment alone.
 fn cut_comment(line: &str) -> &str
     ensures { result.now ≡ before_comment line.now }
 {

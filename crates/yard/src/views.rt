@@ -200,7 +200,7 @@ pub(crate) fn write_state<W: Write>(out: &mut W, registers: &Registers) -> io::R
 }
 
 // Units by their places.
-// kept: a `filter_map` over the places is compiled into a search of sixteen places at a time
+// kept: a `filter_map` over the places is compiled into a scan of sixteen places at a time
 fn write_units<W: Write, F: Fn(usize) -> Option<u16>>(
     out: &mut W,
     count: usize,
