@@ -5,8 +5,9 @@ use Rattle.std.specs.Fmt.{digit_glyph, digits, digits_onto, decimal, padded_inte
 use Rattle.std.proofs.lemmas.List.{append-nil}
 use Rattle.std.proofs.lemmas.Bool.{cond-true, eq-eqb, eqb-true, lt-ltb, and_parts, ltb-true}
 use Rattle.std.proofs.Math.Nat.{pow-suc}
-use Rattle.std.proofs.lemmas.Fmt.{decimal_digit}
+use Rattle.std.proofs.lemmas.Fmt.{decimal_digit, hex_byte}
 use Rattle.std.proofs.lemmas.Str.{IsAscii-append}
+use Rattle.std.proofs.lemmas.Str.Ascii.{IsAscii-nil, IsAscii-cons}
 use Rattle.std.specs.Str.{IsAscii}
 use Rattle.std.specs.Result.{IsOk}
 use Rattle.std.specs.Prelude.{MatchResult}
@@ -75,122 +76,70 @@ hexadecimal_is k n small deep =
     ∙ ap (λ t. replicate (suc k + 0 - length (digits_onto 64 16 true n [])) 48 ++ t) (append-nil (digits_onto 64 16 true n []))
     ∙ onto k n 64 [] small deep
 
-pub four : (n : ℕ) → n < 65536 → hexadecimal 4 n ≡ digit_glyph true (n / 4096 % 16) ∷ digit_glyph true (n / 256 % 16) ∷ digit_glyph true (n / 16 % 16) ∷ digit_glyph true (n % 16) ∷ []
-four n small =
-    hexadecimal_is 3 n small (omega arith)
-    ∙ (λ i. digit_glyph true (d3 i % 16) ∷ digit_glyph true (d2 i % 16) ∷ digit_glyph true (n / 16 % 16) ∷ digit_glyph true (n % 16) ∷ [])
+-- the two digits of a byte, in front of a text
+abbrev byte_digits : ℕ → List ℕ → List ℕ
+byte_digits b acc = digit_glyph true (b / 16) ∷ digit_glyph true (b % 16) ∷ acc
+
+-- the last k bytes of n, each in two digits, in front of a text
+abbrev byte_by_byte : ℕ → ℕ → List ℕ → List ℕ
+byte_by_byte zero n acc = acc
+byte_by_byte (suc k) n acc = byte_by_byte k (n / 256) (byte_digits (n % 256) acc)
+
+abbrev twice : ℕ → ℕ
+twice zero = zero
+twice (suc k) = suc (suc (twice k))
+
+spread_bytes : (k n : ℕ) (acc : List ℕ) → spread (twice k) n acc ≡ byte_by_byte k n acc
+spread_bytes zero n acc = refl
+spread_bytes (suc k) n acc = (λ i. spread (twice k) (rest i) (digit_glyph true (high i) ∷ digit_glyph true (low i) ∷ acc)) ∙ spread_bytes k (n / 256) (byte_digits (n % 256) acc)
   where
-    d2 : n / 16 / 16 ≡ n / 256
+    rest : n / 16 / 16 ≡ n / 256
+    rest = omega arith
+
+    high : n / 16 % 16 ≡ n % 256 / 16
+    high = omega arith
+
+    low : n % 16 ≡ n % 256 % 16
+    low = omega arith
+
+pub one_byte : (n : ℕ) → n < 256 → hexadecimal 2 n ≡ byte_digits n []
+one_byte = hex_byte true
+
+pub two_bytes : (n : ℕ) → n < 65536 → hexadecimal 4 n ≡ byte_digits (n / 256 % 256) (byte_digits (n % 256) [])
+two_bytes n small = hexadecimal_is 3 n small (omega arith) ∙ spread_bytes 2 n []
+
+pub three_bytes : (n : ℕ) → n < 2 ^ 24 → hexadecimal 6 n ≡ byte_digits (n / 65536 % 256) (byte_digits (n / 256 % 256) (byte_digits (n % 256) []))
+three_bytes n small = hexadecimal_is 5 n small (omega arith) ∙ spread_bytes 3 n [] ∙ (λ i. byte_digits (d2 i % 256) (byte_digits (n / 256 % 256) (byte_digits (n % 256) [])))
+  where
+    d2 : n / 256 / 256 ≡ n / 65536
     d2 = omega arith
 
-    d3 : n / 16 / 16 / 16 ≡ n / 4096
-    d3 = omega arith
-
-pub two : (n : ℕ) → n < 256 → hexadecimal 2 n ≡ digit_glyph true (n / 16 % 16) ∷ digit_glyph true (n % 16) ∷ []
-two n small = hexadecimal_is 1 n small (omega arith)
-
-pub six : (n : ℕ) → n < 2 ^ 24 → hexadecimal 6 n ≡ digit_glyph true (n / 1048576 % 16) ∷ digit_glyph true (n / 65536 % 16) ∷ digit_glyph true (n / 4096 % 16) ∷ digit_glyph true (n / 256 % 16) ∷ digit_glyph true (n / 16 % 16) ∷ digit_glyph true (n % 16) ∷ []
-six n small =
-    hexadecimal_is 5 n small (omega arith)
-    ∙ (λ i. digit_glyph true (d5 i % 16) ∷ digit_glyph true (d4 i % 16) ∷ digit_glyph true (d3 i % 16) ∷ digit_glyph true (d2 i % 16) ∷ digit_glyph true (n / 16 % 16) ∷ digit_glyph true (n % 16) ∷ [])
+pub eight_bytes : (n : ℕ) → n < 2 ^ 64 → hexadecimal 16 n
+    ≡ byte_digits (n / 2 ^ 56 % 256) (byte_digits (n / 2 ^ 48 % 256) (byte_digits (n / 2 ^ 40 % 256) (byte_digits (n / 2 ^ 32 % 256) (byte_digits (n / 2 ^ 24 % 256) (byte_digits (n / 65536 % 256) (byte_digits (n / 256 % 256) (byte_digits (n % 256) [])))))))
+eight_bytes n small =
+    hexadecimal_is 15 n small (omega arith) ∙ spread_bytes 8 n []
+    ∙ (λ i. byte_digits (d7 i % 256) (byte_digits (d6 i % 256) (byte_digits (d5 i % 256) (byte_digits (d4 i % 256) (byte_digits (d3 i % 256) (byte_digits (d2 i % 256) (byte_digits (n / 256 % 256) (byte_digits (n % 256) []))))))))
   where
-    d2 : n / 16 / 16 ≡ n / 256
+    more : (a : ℕ) {q : ℕ} → q ≡ n / 2 ^ a → n / 2 ^ a / 256 ≡ n / 2 ^ (a + 8) → q / 256 ≡ n / 2 ^ (a + 8)
+    more a e step = ap (λ q. q / 256) e ∙ step
+
+    d2 : n / 256 / 256 ≡ n / 2 ^ 16
     d2 = omega arith
 
-    d3 : n / 16 / 16 / 16 ≡ n / 4096
-    d3 = omega arith
+    d3 : n / 256 / 256 / 256 ≡ n / 2 ^ 24
+    d3 = more 16 d2 (omega arith)
 
-    d4 : n / 16 / 16 / 16 / 16 ≡ n / 65536
-    d4 = omega arith
+    d4 : n / 256 / 256 / 256 / 256 ≡ n / 2 ^ 32
+    d4 = more 24 d3 (omega arith)
 
-    d5 : n / 16 / 16 / 16 / 16 / 16 ≡ n / 1048576
-    d5 = omega arith
+    d5 : n / 256 / 256 / 256 / 256 / 256 ≡ n / 2 ^ 40
+    d5 = more 32 d4 (omega arith)
 
-pub sixteen : (n : ℕ) → n < 2 ^ 64 → hexadecimal 16 n ≡ digit_glyph true (n / 1152921504606846976 % 16) ∷ digit_glyph true (n / 72057594037927936 % 16) ∷ digit_glyph true (n / 4503599627370496 % 16) ∷ digit_glyph true (n / 281474976710656 % 16) ∷ digit_glyph true (n / 17592186044416 % 16) ∷ digit_glyph true (n / 1099511627776 % 16) ∷ digit_glyph true (n / 68719476736 % 16) ∷ digit_glyph true (n / 4294967296 % 16) ∷ digit_glyph true (n / 268435456 % 16) ∷ digit_glyph true (n / 16777216 % 16) ∷ digit_glyph true (n / 1048576 % 16) ∷ digit_glyph true (n / 65536 % 16) ∷ digit_glyph true (n / 4096 % 16) ∷ digit_glyph true (n / 256 % 16) ∷ digit_glyph true (n / 16 % 16) ∷ digit_glyph true (n % 16) ∷ []
-sixteen n small =
-    hexadecimal_is 15 n small (omega arith)
-    ∙ (λ i. digit_glyph true (d15 i % 16) ∷ digit_glyph true (d14 i % 16) ∷ digit_glyph true (d13 i % 16) ∷ digit_glyph true (d12 i % 16) ∷ digit_glyph true (d11 i % 16) ∷ digit_glyph true (d10 i % 16) ∷ digit_glyph true (d9 i % 16) ∷ digit_glyph true (d8 i % 16) ∷ digit_glyph true (d7 i % 16) ∷ digit_glyph true (d6 i % 16) ∷ digit_glyph true (d5 i % 16) ∷ digit_glyph true (d4 i % 16) ∷ digit_glyph true (d3 i % 16) ∷ digit_glyph true (d2 i % 16) ∷ digit_glyph true (n / 16 % 16) ∷ digit_glyph true (n % 16) ∷ [])
-  where
-    by3 : n / 256 / 16 ≡ n / 4096
-    by3 = omega arith
+    d6 : n / 256 / 256 / 256 / 256 / 256 / 256 ≡ n / 2 ^ 48
+    d6 = more 40 d5 (omega arith)
 
-    by4 : n / 4096 / 16 ≡ n / 65536
-    by4 = omega arith
-
-    by5 : n / 65536 / 16 ≡ n / 1048576
-    by5 = omega arith
-
-    by6 : n / 1048576 / 16 ≡ n / 16777216
-    by6 = omega arith
-
-    by7 : n / 16777216 / 16 ≡ n / 268435456
-    by7 = omega arith
-
-    by8 : n / 268435456 / 16 ≡ n / 4294967296
-    by8 = omega arith
-
-    by9 : n / 4294967296 / 16 ≡ n / 68719476736
-    by9 = omega arith
-
-    by10 : n / 68719476736 / 16 ≡ n / 1099511627776
-    by10 = omega arith
-
-    by11 : n / 1099511627776 / 16 ≡ n / 17592186044416
-    by11 = omega arith
-
-    by12 : n / 17592186044416 / 16 ≡ n / 281474976710656
-    by12 = omega arith
-
-    by13 : n / 281474976710656 / 16 ≡ n / 4503599627370496
-    by13 = omega arith
-
-    by14 : n / 4503599627370496 / 16 ≡ n / 72057594037927936
-    by14 = omega arith
-
-    by15 : n / 72057594037927936 / 16 ≡ n / 1152921504606846976
-    by15 = omega arith
-
-    d2 : n / 16 / 16 ≡ n / 256
-    d2 = omega arith
-
-    d3 : n / 16 / 16 / 16 ≡ n / 4096
-    d3 = ap (λ q. q / 16) d2 ∙ by3
-
-    d4 : n / 16 / 16 / 16 / 16 ≡ n / 65536
-    d4 = ap (λ q. q / 16) d3 ∙ by4
-
-    d5 : n / 16 / 16 / 16 / 16 / 16 ≡ n / 1048576
-    d5 = ap (λ q. q / 16) d4 ∙ by5
-
-    d6 : n / 16 / 16 / 16 / 16 / 16 / 16 ≡ n / 16777216
-    d6 = ap (λ q. q / 16) d5 ∙ by6
-
-    d7 : n / 16 / 16 / 16 / 16 / 16 / 16 / 16 ≡ n / 268435456
-    d7 = ap (λ q. q / 16) d6 ∙ by7
-
-    d8 : n / 16 / 16 / 16 / 16 / 16 / 16 / 16 / 16 ≡ n / 4294967296
-    d8 = ap (λ q. q / 16) d7 ∙ by8
-
-    d9 : n / 16 / 16 / 16 / 16 / 16 / 16 / 16 / 16 / 16 ≡ n / 68719476736
-    d9 = ap (λ q. q / 16) d8 ∙ by9
-
-    d10 : n / 16 / 16 / 16 / 16 / 16 / 16 / 16 / 16 / 16 / 16 ≡ n / 1099511627776
-    d10 = ap (λ q. q / 16) d9 ∙ by10
-
-    d11 : n / 16 / 16 / 16 / 16 / 16 / 16 / 16 / 16 / 16 / 16 / 16 ≡ n / 17592186044416
-    d11 = ap (λ q. q / 16) d10 ∙ by11
-
-    d12 : n / 16 / 16 / 16 / 16 / 16 / 16 / 16 / 16 / 16 / 16 / 16 / 16 ≡ n / 281474976710656
-    d12 = ap (λ q. q / 16) d11 ∙ by12
-
-    d13 : n / 16 / 16 / 16 / 16 / 16 / 16 / 16 / 16 / 16 / 16 / 16 / 16 / 16 ≡ n / 4503599627370496
-    d13 = ap (λ q. q / 16) d12 ∙ by13
-
-    d14 : n / 16 / 16 / 16 / 16 / 16 / 16 / 16 / 16 / 16 / 16 / 16 / 16 / 16 / 16 ≡ n / 72057594037927936
-    d14 = ap (λ q. q / 16) d13 ∙ by14
-
-    d15 : n / 16 / 16 / 16 / 16 / 16 / 16 / 16 / 16 / 16 / 16 / 16 / 16 / 16 / 16 / 16 ≡ n / 1152921504606846976
-    d15 = ap (λ q. q / 16) d14 ∙ by15
+    d7 : n / 256 / 256 / 256 / 256 / 256 / 256 / 256 ≡ n / 2 ^ 56
+    d7 = more 48 d6 (omega arith)
 
 -- a digit below ten is the same in both bases
 one : (n : ℕ) → n < 10 → decimal n ≡ digit_glyph true n ∷ []
@@ -227,99 +176,6 @@ marks l h =
     let ending = one (bit l.last) (bit_small l.last) in
     λ i. codes " " ++ ((codes "kind " ++ (kind i ++ (codes " channel " ++ (channel i ++ (codes " wide " ++ (wide i ++ (codes " last " ++ ending i))))))) ++ codes " level ")
 
-pub one_byte : (n : ℕ) → n < 256 → hexadecimal 2 n ≡ digit_glyph true (n / 16) ∷ digit_glyph true (n % 16) ∷ []
-one_byte n small = two n small ∙ (λ i. digit_glyph true (d i) ∷ digit_glyph true (n % 16) ∷ [])
-  where
-    d : n / 16 % 16 ≡ n / 16
-    d = omega arith
-
-pub two_bytes : (n : ℕ) → n < 65536 → hexadecimal 4 n ≡ digit_glyph true (n / 256 % 256 / 16) ∷ digit_glyph true (n / 256 % 256 % 16) ∷ digit_glyph true (n % 256 / 16) ∷ digit_glyph true (n % 256 % 16) ∷ []
-two_bytes n small = four n small ∙ (λ i. digit_glyph true (d3 i) ∷ digit_glyph true (d2 i) ∷ digit_glyph true (d1 i) ∷ digit_glyph true (d0 i) ∷ [])
-  where
-    d3 : n / 4096 % 16 ≡ n / 256 % 256 / 16
-    d3 = omega arith
-
-    d2 : n / 256 % 16 ≡ n / 256 % 256 % 16
-    d2 = omega arith
-
-    d1 : n / 16 % 16 ≡ n % 256 / 16
-    d1 = omega arith
-
-    d0 : n % 16 ≡ n % 256 % 16
-    d0 = omega arith
-
-pub three_bytes : (n : ℕ) → n < 2 ^ 24 → hexadecimal 6 n ≡ digit_glyph true (n / 65536 % 256 / 16) ∷ digit_glyph true (n / 65536 % 256 % 16) ∷ digit_glyph true (n / 256 % 256 / 16) ∷ digit_glyph true (n / 256 % 256 % 16) ∷ digit_glyph true (n % 256 / 16) ∷ digit_glyph true (n % 256 % 16) ∷ []
-three_bytes n small = six n small ∙ (λ i. digit_glyph true (d5 i) ∷ digit_glyph true (d4 i) ∷ digit_glyph true (d3 i) ∷ digit_glyph true (d2 i) ∷ digit_glyph true (d1 i) ∷ digit_glyph true (d0 i) ∷ [])
-  where
-    d5 : n / 1048576 % 16 ≡ n / 65536 % 256 / 16
-    d5 = omega arith
-
-    d4 : n / 65536 % 16 ≡ n / 65536 % 256 % 16
-    d4 = omega arith
-
-    d3 : n / 4096 % 16 ≡ n / 256 % 256 / 16
-    d3 = omega arith
-
-    d2 : n / 256 % 16 ≡ n / 256 % 256 % 16
-    d2 = omega arith
-
-    d1 : n / 16 % 16 ≡ n % 256 / 16
-    d1 = omega arith
-
-    d0 : n % 16 ≡ n % 256 % 16
-    d0 = omega arith
-
-pub eight_bytes : (n : ℕ) → n < 2 ^ 64 → hexadecimal 16 n ≡ digit_glyph true (n / 72057594037927936 % 256 / 16) ∷ digit_glyph true (n / 72057594037927936 % 256 % 16) ∷ digit_glyph true (n / 281474976710656 % 256 / 16) ∷ digit_glyph true (n / 281474976710656 % 256 % 16) ∷ digit_glyph true (n / 1099511627776 % 256 / 16) ∷ digit_glyph true (n / 1099511627776 % 256 % 16) ∷ digit_glyph true (n / 4294967296 % 256 / 16) ∷ digit_glyph true (n / 4294967296 % 256 % 16) ∷ digit_glyph true (n / 16777216 % 256 / 16) ∷ digit_glyph true (n / 16777216 % 256 % 16) ∷ digit_glyph true (n / 65536 % 256 / 16) ∷ digit_glyph true (n / 65536 % 256 % 16) ∷ digit_glyph true (n / 256 % 256 / 16) ∷ digit_glyph true (n / 256 % 256 % 16) ∷ digit_glyph true (n % 256 / 16) ∷ digit_glyph true (n % 256 % 16) ∷ []
-eight_bytes n small = sixteen n small ∙ (λ i. digit_glyph true (d15 i) ∷ digit_glyph true (d14 i) ∷ digit_glyph true (d13 i) ∷ digit_glyph true (d12 i) ∷ digit_glyph true (d11 i) ∷ digit_glyph true (d10 i) ∷ digit_glyph true (d9 i) ∷ digit_glyph true (d8 i) ∷ digit_glyph true (d7 i) ∷ digit_glyph true (d6 i) ∷ digit_glyph true (d5 i) ∷ digit_glyph true (d4 i) ∷ digit_glyph true (d3 i) ∷ digit_glyph true (d2 i) ∷ digit_glyph true (d1 i) ∷ digit_glyph true (d0 i) ∷ [])
-  where
-    d15 : n / 1152921504606846976 % 16 ≡ n / 72057594037927936 % 256 / 16
-    d15 = omega arith
-
-    d14 : n / 72057594037927936 % 16 ≡ n / 72057594037927936 % 256 % 16
-    d14 = omega arith
-
-    d13 : n / 4503599627370496 % 16 ≡ n / 281474976710656 % 256 / 16
-    d13 = omega arith
-
-    d12 : n / 281474976710656 % 16 ≡ n / 281474976710656 % 256 % 16
-    d12 = omega arith
-
-    d11 : n / 17592186044416 % 16 ≡ n / 1099511627776 % 256 / 16
-    d11 = omega arith
-
-    d10 : n / 1099511627776 % 16 ≡ n / 1099511627776 % 256 % 16
-    d10 = omega arith
-
-    d9 : n / 68719476736 % 16 ≡ n / 4294967296 % 256 / 16
-    d9 = omega arith
-
-    d8 : n / 4294967296 % 16 ≡ n / 4294967296 % 256 % 16
-    d8 = omega arith
-
-    d7 : n / 268435456 % 16 ≡ n / 16777216 % 256 / 16
-    d7 = omega arith
-
-    d6 : n / 16777216 % 16 ≡ n / 16777216 % 256 % 16
-    d6 = omega arith
-
-    d5 : n / 1048576 % 16 ≡ n / 65536 % 256 / 16
-    d5 = omega arith
-
-    d4 : n / 65536 % 16 ≡ n / 65536 % 256 % 16
-    d4 = omega arith
-
-    d3 : n / 4096 % 16 ≡ n / 256 % 256 / 16
-    d3 = omega arith
-
-    d2 : n / 256 % 16 ≡ n / 256 % 256 % 16
-    d2 = omega arith
-
-    d1 : n / 16 % 16 ≡ n % 256 / 16
-    d1 = omega arith
-
-    d0 : n % 16 ≡ n % 256 % 16
-    d0 = omega arith
-
 pub address_small : (l : Line) → listed l ≡ true → l.address < 2 ^ 24
 address_small l h = grind (arith, common_steps)
 
@@ -335,23 +191,16 @@ under d small = go (ltb d 10)
     go true = omega arith
     go false = omega arith
 
-behind : (c : ℕ) (bs : List ℕ) → c < 128 → IsAscii bs → IsAscii (c ∷ bs)
-behind c bs low rest zero = low
-behind c bs low rest (suc i) = rest i
-
 spread_ascii : (k n : ℕ) (acc : List ℕ) → IsAscii acc → IsAscii (spread k n acc)
 spread_ascii zero n acc h = h
-spread_ascii (suc k) n acc h = spread_ascii k (n / 16) (digit_glyph true (n % 16) ∷ acc) (behind _ acc (under (n % 16) (omega arith)) h)
+spread_ascii (suc k) n acc h = spread_ascii k (n / 16) (digit_glyph true (n % 16) ∷ acc) (IsAscii-cons _ acc (under (n % 16) (omega arith)) h)
 
 pub hexadecimal_ascii : (k n : ℕ) → n < 16 ^ suc k → k < 64 → IsAscii (hexadecimal (suc k) n)
-hexadecimal_ascii k n small deep = subst IsAscii (sym (hexadecimal_is k n small deep)) (spread_ascii (suc k) n [] (λ i. omega arith))
+hexadecimal_ascii k n small deep = subst IsAscii (sym (hexadecimal_is k n small deep)) (spread_ascii (suc k) n [] IsAscii-nil)
 
 plain : (bs : List ℕ) → list_all is_ascii bs ≡ true → IsAscii bs
-plain [] h = λ i. omega arith
-plain (b ∷ bs) h = let p = and_parts _ _ h in behind b bs (ltb-true b 128 p.0) (plain bs p.1)
-
-join : (xs ys : List ℕ) → IsAscii xs → IsAscii ys → IsAscii (xs ++ ys)
-join = IsAscii-append
+plain [] h = IsAscii-nil
+plain (b ∷ bs) h = let p = and_parts _ _ h in IsAscii-cons b bs (ltb-true b 128 p.0) (plain bs p.1)
 
 -- a literal before a text
 led : (xs ys : List ℕ) → list_all is_ascii xs ≡ true → IsAscii ys → IsAscii (xs ++ ys)
@@ -362,25 +211,25 @@ word_ascii n small = hexadecimal_ascii 15 n small (omega arith)
 
 pub registers_ascii : (c : Channel) → memory_address c < 2 ^ 24 → c.count < 65536 → c.io < 65536 → c.mode < 256 → IsAscii (registers_text c)
 registers_ascii c a n i m =
-    led (codes ": address ") _ refl (join _ _ (hexadecimal_ascii 5 (memory_address c) a (omega arith))
-    (led (codes " count ") _ refl (join _ _ (hexadecimal_ascii 3 c.count n (omega arith))
-    (led (codes " io ") _ refl (join _ _ (hexadecimal_ascii 3 c.io i (omega arith))
-    (led (codes " mode ") _ refl (join _ _ (hexadecimal_ascii 1 c.mode m (omega arith)) (plain (codes " ") refl))))))))
+    led (codes ": address ") _ refl (IsAscii-append _ _ (hexadecimal_ascii 5 (memory_address c) a (omega arith))
+    (led (codes " count ") _ refl (IsAscii-append _ _ (hexadecimal_ascii 3 c.count n (omega arith))
+    (led (codes " io ") _ refl (IsAscii-append _ _ (hexadecimal_ascii 3 c.io i (omega arith))
+    (led (codes " mode ") _ refl (IsAscii-append _ _ (hexadecimal_ascii 1 c.mode m (omega arith)) (plain (codes " ") refl))))))))
 
 pub tail_ascii : (l : Line) → listed l ≡ true → IsAscii (codes " address " ++ (hexadecimal 6 l.address ++ (codes " unit " ++ hexadecimal 4 l.unit)))
 tail_ascii l h =
-    led (codes " address ") _ refl (join _ _ (hexadecimal_ascii 5 l.address (address_small l h) (omega arith))
+    led (codes " address ") _ refl (IsAscii-append _ _ (hexadecimal_ascii 5 l.address (address_small l h) (omega arith))
     (led (codes " unit ") _ refl (hexadecimal_ascii 3 l.unit (unit_small l h) (omega arith))))
 
 digit_alone : (n : ℕ) → n < 10 → IsAscii (decimal n)
-digit_alone n small = subst IsAscii (sym (one n small)) (behind _ [] (under n (omega arith)) (λ i. omega arith))
+digit_alone n small = subst IsAscii (sym (one n small)) (IsAscii-cons _ [] (under n (omega arith)) IsAscii-nil)
 
 pub head_ascii : (l : Line) → listed l ≡ true → IsAscii (codes " " ++ (marks_text l ++ codes " level "))
 head_ascii l h =
-    led (codes " ") (marks_text l ++ codes " level ") refl (join (marks_text l) (codes " level ")
-    (led (codes "kind ") _ refl (join _ _ (digit_alone _ (kind_small l.kind))
-    (led (codes " channel ") _ refl (join _ _ (digit_alone _ (channel_small l h))
-    (led (codes " wide ") _ refl (join _ _ (digit_alone _ (bit_small l.wide))
+    led (codes " ") (marks_text l ++ codes " level ") refl (IsAscii-append (marks_text l) (codes " level ")
+    (led (codes "kind ") _ refl (IsAscii-append _ _ (digit_alone _ (kind_small l.kind))
+    (led (codes " channel ") _ refl (IsAscii-append _ _ (digit_alone _ (channel_small l h))
+    (led (codes " wide ") _ refl (IsAscii-append _ _ (digit_alone _ (bit_small l.wide))
     (led (codes " last ") _ refl (digit_alone _ (bit_small l.last)))))))))
     (plain (codes " level ") refl))
 

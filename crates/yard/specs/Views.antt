@@ -26,11 +26,10 @@ abbrev pub registers_text : Channel → List ℕ
 registers_text c =
     codes ": address " ++ (hexadecimal 6 (memory_address c) ++ (codes " count " ++ (hexadecimal 4 c.count ++ (codes " io " ++ (hexadecimal 4 c.io ++ (codes " mode " ++ (hexadecimal 2 c.mode ++ codes " ")))))))
 
--- the address in its 24 bits
+-- a channel by its number
 abbrev pub channel_text : ℕ → Channel → List ℕ
 channel_text n c =
-    codes "channel " ++ (decimal n ++ (codes ": address " ++ (hexadecimal 6 (memory_address c) ++ (codes " count " ++ (hexadecimal 4 c.count ++ (codes " io " ++ (hexadecimal 4 c.io
-    ++ (codes " mode " ++ (hexadecimal 2 c.mode ++ (codes " " ++ ((if c.masked then codes "masked" else codes "open") ++ (codes " level " ++ decimal c.level))))))))))))
+    codes "channel " ++ (decimal n ++ (registers_text c ++ ((if c.masked then codes "masked" else codes "open") ++ (codes " level " ++ decimal c.level))))
 
 -- function byte, byte pointer, and the status of channels 0 to 3 and 4 to 7
 abbrev pub controller_text : Controller → List ℕ
@@ -52,11 +51,11 @@ ports_text r =
     codes "ports: 0061 " ++ (hexadecimal 2 r.port61 ++ (codes " 0090 " ++ (hexadecimal 2 (high_bits r.arbitration) ++ (codes " winner " ++ (decimal r.arbitration.winner
     ++ (codes " latch " ++ (decimal (bit r.timers.latch) ++ (codes " lines " ++ decimal r.lines))))))))
 
--- a word of the journal in sixteen digits, and the fields of the line that it holds
-abbrev pub held_text : ℕ → Result Line Fault → List ℕ
-held_text w (Ok l) = hexadecimal 16 w ++ (codes " " ++ line_text l)
-held_text w (Err f) = hexadecimal 16 w ++ codes " no line"
+-- the fields of the line that a word holds
+abbrev pub held_text : Result Line Fault → List ℕ
+held_text (Ok l) = codes " " ++ line_text l
+held_text (Err f) = codes " no line"
 
--- a word by its place
+-- a word of the journal by its place, in sixteen digits, and what it holds
 abbrev pub word_text : ℕ → ℕ → List ℕ
-word_text place w = codes "line " ++ (decimal place ++ (codes ": " ++ held_text w (unpacked w)))
+word_text place w = codes "line " ++ (decimal place ++ (codes ": " ++ (hexadecimal 16 w ++ held_text (unpacked w))))
